@@ -30,6 +30,7 @@ pub mod Laws
 pub mod TileRowing
 pub mod RowLaws
 pub mod PictureRows
+mod GivenTiles
 pub mod EntriesKept
 pub mod NeedLaws
 pub mod ComingLaws

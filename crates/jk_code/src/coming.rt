@@ -8,7 +8,7 @@ ghost use Rattle.jk_params.specs.PictureFrames.{frame_of};
 ghost use Rattle.jk_code.specs.Made.{rows_of};
 ghost use Rattle.jk_code.specs.RowsWritten.{IsStripe, WereGiven, HasMet, WereAllGiven, HasMetBefore, HaveSameRows};
 ghost use Rattle.jk_code.specs.ComingRows.{IsComing, component_of, area_of_coming, tiles_coming, AreFalling, HaveRows};
-ghost use Rattle.jk_code.specs.ComingRows.{IsFallingTile, AreFallen, AreCoded};
+ghost use Rattle.jk_code.specs.ComingRows.{IsFallingTile, AreFallen, AreCoded, HaveGiven, GivesMore};
 
 use crate::encoding_rows::{RowSupply, step_end};
 use crate::rows::tiles_across;
@@ -16,7 +16,7 @@ use jk_geom::{tile, tile_count};
 use jk_marks::Coding;
 use jk_math::{Fault, Image};
 use jk_params::{Parameters, PictureFrame, siz_for};
-use jk_tile::{FallenTile, FallingTile, WrittenComponent};
+use jk_tile::{FallenTile, FallingTile, When, WrittenComponent};
 use std::alloc::Global;
 
 /// An image whose rows come: where it lies, how it is written, and how each of its components is
@@ -39,7 +39,7 @@ pub(crate) fn component_at<'a>(coming: &ComingImage<'a>, number: usize) -> Writt
 }
 
 /// So many tiles, from tile `first` on, before their first row.
-fn first_of_tiles(
+pub(crate) fn first_of_tiles(
     alloc: Global,
     coming: &ComingImage<'_>,
     first: usize,
@@ -60,6 +60,14 @@ fn first_of_tiles(
     Ok(tiles)
 }
 
+/// The row at which the next stripe of rows ends, and when code-blocks are coded of which no row is
+/// missing any more.
+#[derive(Clone, Copy)]
+pub(crate) struct NextStripe {
+    pub(crate) end: u32,
+    pub(crate) when: When,
+}
+
 /// Gives so many tiles, from tile `first` on, what they have of a stripe of rows.
 fn give_stripe(
     alloc: Global,
@@ -68,6 +76,7 @@ fn give_stripe(
     stripe: &Image,
     tiles: &mut Vec<FallingTile>,
     values: &mut Vec<i32>,
+    when: When,
 ) -> Result<(), Fault>
     requires coming { IsComing coming.now }
     requires picture { IsPicture stripe.now }
@@ -90,9 +99,48 @@ fn give_stripe(
 {
     for k in 0..tiles.len() {
         let source = component_at(coming, first + k);
-        tiles[k].give(alloc, &source, coming.parameters.colour, stripe, values)?;
+        tiles[k].give(
+            alloc,
+            &source,
+            coming.parameters.colour,
+            stripe,
+            values,
+            when,
+        )?;
     }
     Ok(())
+}
+
+/// Takes the next stripe of rows, and gives so many tiles, from tile `first` on, what they have of it.
+/// `values` is room for a component of the stripe.
+pub(crate) fn give_next<S: RowSupply>(
+    alloc: Global,
+    coming: &ComingImage<'_>,
+    first: usize,
+    next: NextStripe,
+    tiles: &mut Vec<FallingTile>,
+    supply: &mut S,
+    values: &mut Vec<i32>,
+) -> Result<(), Fault>
+    requires coming { IsComing coming.now }
+    requires whole { first + length tiles.old.items ≤ tiles_coming coming.now }
+    requires order { S.next supply.old < next.end }
+    requires end { next.end ≤ coming.now.frame.y0 + coming.now.frame.height }
+    requires tiles { AreFalling coming.now first (length tiles.old.items) (S.next supply.old) tiles.old.items }
+    requires lower { (k : ℕ) → k < length tiles.old.items → next.end ≤ (area_of_coming coming.now (first + k)).y1 }
+    requires framed { S.framed supply.old ≡ coming.now.frame }
+    requires given { (y : ℕ) × (from : S) × (coming.now.frame.y0 ≤ y) × (y ≤ S.next supply.old)
+        × HaveGiven S.gave coming.now first (length tiles.old.items) y (S.next supply.old) from supply.old tiles.old.items }
+    ensures count { length tiles.new.items ≡ length tiles.old.items }
+    ensures tiles { OnOk result (AreFalling coming.now first (length tiles.old.items) next.end tiles.new.items) }
+    ensures given { OnOk result (GivesMore S.gave coming.now first (length tiles.old.items) (S.next supply.old) next.end
+        supply.old supply.new tiles.old.items tiles.new.items) }
+    ensures stays { OnOk result (S.framed supply.new ≡ coming.now.frame) }
+    ensures next { OnOk result (S.next supply.new ≡ next.end) }
+    ensures err { IfErr result (λ e. IsMemory e ⊎ S.met supply.old e supply.new) }
+{
+    let stripe = supply.give(alloc, next.end)?;
+    give_stripe(alloc, coming, first, &stripe, tiles, values, next.when)
 }
 
 /// Gives so many tiles, from tile `first` on, all their rows, which are these.
@@ -130,15 +178,18 @@ fn give_tiles<S: RowSupply>(
     let (mut y, end) = rows;
     let mut values = Vec::new(alloc);
     while y < end {
-        let stripe = supply.give(alloc, step_end(y, end, step))?;
-        y = stripe.y0() + stripe.height();
-        give_stripe(alloc, coming, first, &stripe, tiles, &mut values)?;
+        let next = NextStripe {
+            end: step_end(y, end, step),
+            when: When::Now,
+        };
+        give_next(alloc, coming, first, next, tiles, supply, &mut values)?;
+        y = next.end;
     }
     Ok(())
 }
 
 /// Keeps of tiles, from the next one on, what is kept behind their last row.
-fn keep_tiles(
+pub(crate) fn keep_tiles(
     alloc: Global,
     coming: &ComingImage<'_>,
     tiles: Vec<FallingTile>,

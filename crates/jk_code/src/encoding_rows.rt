@@ -67,7 +67,7 @@ pub(crate) fn step_end(y: u32, end: u32, step: u32) -> u32
 }
 
 /// Takes all rows and keeps none.
-fn drop_rows<S: RowSupply>(
+pub(crate) fn drop_rows<S: RowSupply>(
     alloc: Global,
     frame: &PictureFrame,
     step: u32,
@@ -91,7 +91,7 @@ fn drop_rows<S: RowSupply>(
 }
 
 /// How each component is coded before its exponents are known.
-fn open_coding(parameters: &Parameters) -> Coding
+pub(crate) fn open_coding(parameters: &Parameters) -> Coding
     requires { length parameters.now.precincts.items ≤ 11 }
     ensures { result ≡ coding_with (cod_of parameters.now).style (record { guard = 0; exponents = [] }) }
 {
@@ -103,7 +103,7 @@ fn open_coding(parameters: &Parameters) -> Coding
 }
 
 /// Writes the file of an image whose tiles are behind their last rows.
-fn put_tiles<W: Write>(
+pub(crate) fn put_tiles<W: Write>(
     alloc: Global,
     coming: &ComingImage<'_>,
     tiles: Vec<FallenTile>,

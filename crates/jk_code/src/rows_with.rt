@@ -22,6 +22,7 @@ use crate::reduction::check_reduction;
 use crate::rows::{
     Rows, TileRow, give_stripe, judge, step_end, stripe_planes, tile_of, tile_row, tiles_across,
 };
+use crate::team::Team;
 use jk_boxes::open;
 use jk_geom::{reduced, tile};
 use jk_jobs::Gate;
@@ -31,13 +32,6 @@ use jk_tile::{BlockSegment, DecodedBlocks, Workers, decode_segments};
 use std::alloc::Global;
 use std::marker::Sync;
 use std::thread::{Threads, join_mut};
-
-/// Workers, and who is told of the code-blocks that they decode.
-#[derive(Drop)]
-struct Team<'a, R, G> {
-    workers: &'a Workers<'a, R>,
-    gate: &'a G,
-}
 
 /// Rows `y` up to `end`, which are given, and the end of those behind them.
 #[derive(Clone, Copy)]

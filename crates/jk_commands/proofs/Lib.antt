@@ -4,6 +4,11 @@ pub mod RasterLaws
 pub mod FrameLaws
 pub mod FileRowLaws
 pub mod RowLeftLaws
+pub mod StreamLaws
+pub mod StreamRowLaws
+pub mod StreamJudging
+pub mod StreamFileLaws
+pub mod StreamEndLaws
 pub mod AheadLaws
 pub mod WalkLoops
 pub mod MarkerLaws

@@ -5,6 +5,7 @@ pub mod Dressing
 pub mod Rasters
 pub mod RowWriting
 pub mod RowReading
+pub mod RowStreaming
 pub mod Written
 pub mod Lines
 pub mod BoxList

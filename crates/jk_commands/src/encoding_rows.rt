@@ -24,16 +24,16 @@ use std::io::Write;
 
 /// How many rows are encoded at a time. A row of code-blocks of each sub-band is held anyway, which
 /// `jk encode` makes 64 rows high: a stripe of as many rows takes less memory than these do.
-const ROWS: u32 = 64;
+pub(crate) const ROWS: u32 = 64;
 
 /// What gives the rows of the image of a file, with its upper left sample at (`x0`, `y0`), of which
 /// the first ones were given.
 #[derive(Drop)]
-struct FileRows<'a> {
-    raster: RasterRows<'a>,
-    x0: u32,
-    y0: u32,
-    given: u32,
+pub(crate) struct FileRows<'a> {
+    pub(crate) raster: RasterRows<'a>,
+    pub(crate) x0: u32,
+    pub(crate) y0: u32,
+    pub(crate) given: u32,
 }
 
 impl<'a> RowSupply for FileRows<'a> {
@@ -59,7 +59,7 @@ impl<'a> RowSupply for FileRows<'a> {
 }
 
 /// The frame of the image of a file, with its upper left sample at (0, 0).
-fn frame_of_file(raster: &RasterRows<'_>) -> PictureFrame
+pub(crate) fn frame_of_file(raster: &RasterRows<'_>) -> PictureFrame
     ensures value { result ≡ frame_of (drawn raster.now) }
     ensures frame { IsPictureFrame result }
     ensures picture_told { IsPicture (drawn raster.now) → picture_told raster.now ≡ Ok (drawn raster.now) }
@@ -77,7 +77,7 @@ fn frame_of_file(raster: &RasterRows<'_>) -> PictureFrame
 }
 
 /// The end of a stripe of an image of so many rows.
-fn stripe_end(y: u32, height: u32) -> u32
+pub(crate) fn stripe_end(y: u32, height: u32) -> u32
     requires { y < height }
     ensures more { y < result }
     ensures to { result ≤ height }
@@ -86,7 +86,7 @@ fn stripe_end(y: u32, height: u32) -> u32
 }
 
 /// Looks at all samples and keeps none.
-fn judge(alloc: Global, raster: &RasterRows<'_>) -> Result<(), Fault>
+pub(crate) fn judge(alloc: Global, raster: &RasterRows<'_>) -> Result<(), Fault>
     ensures ok { OnOk result (IsPicture (drawn raster.now)) }
     ensures err { IfErr result (λ e. Refuses e (picture_told raster.now)) }
 {

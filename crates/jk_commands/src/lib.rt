@@ -10,7 +10,9 @@ mod decoding_rows;
 mod decoding_with;
 mod dressing;
 mod encoding;
+mod encoding_from;
 mod encoding_rows;
+mod encoding_rows_by;
 mod layers;
 mod markers;
 mod row_decoders;
@@ -31,6 +33,7 @@ pub use dressing::{
     encode_image_dressed_into, encode_image_dressed_with,
 };
 pub use encoding::{encode_file, encode_file_into, encode_file_with, read_image};
+pub use encoding_from::encode_rows_from;
 pub use encoding_rows::encode_rows_into;
 pub use jk_code::suits_rows;
 pub use jk_options::{EncodeOptions, Placed, Plan, judge, order_name, order_named};

@@ -23,9 +23,9 @@ use std::thread::Threads;
 /// do.
 pub(crate) const ROWS: u32 = 64;
 
-/// How many rows are decoded at a time with so many workers: so many that each of them has some 32
-/// code-blocks of 64 by 64, and in which a row of code-blocks of the highest resolution ends.
-fn rows_for(width: u32, components: u16, workers: usize) -> u32
+/// How many rows are decoded or encoded at a time with so many workers: so many that each of them has
+/// some 32 code-blocks of 64 by 64, and in which a row of code-blocks of the highest resolution ends.
+pub(crate) fn rows_for(width: u32, components: u16, workers: usize) -> u32
     requires workers { workers ≤ 64 }
     ensures { 1 ≤ result }
 {

@@ -2,6 +2,7 @@
 //! locked.
 #![tactic(auto)]
 
+mod incoming;
 mod listing;
 mod locking;
 mod opening;
@@ -13,6 +14,7 @@ mod replacing;
 mod stamping;
 mod writing;
 
+pub use incoming::{Incoming, Intake};
 pub use listing::{Listing, Other, list, names};
 pub use locking::{
     Lock, Lockable, SharedLock, try_exclusive, try_shared, wait_exclusive, wait_shared,

@@ -14,10 +14,10 @@ use std::io::{self, ErrorKind, Read, Seek, SeekFrom};
 use std::rt::Files;
 
 /// How many bytes are asked for at once.
-const PIECE: usize = 1 << 18;
+pub(crate) const PIECE: usize = 1 << 18;
 
 /// How many reads are made at most.
-const READS: u64 = 1 << 32;
+pub(crate) const READS: u64 = 1 << 32;
 
 /// The first bytes, or all if there are fewer.
 fn front(bytes: &[u8], count: usize) -> &[u8]
@@ -27,7 +27,7 @@ fn front(bytes: &[u8], count: usize) -> &[u8]
 }
 
 /// Room for a piece.
-fn room(alloc: Global, size: usize) -> Result<Vec<u8>, Refused>
+pub(crate) fn room(alloc: Global, size: usize) -> Result<Vec<u8>, Refused>
     ensures { IfOk result (λ v. length v.items ≡ size) }
 {
     Ok(vec![in alloc; 0u8; size]?)
@@ -48,7 +48,7 @@ fn append(bytes: &mut Vec<u8>, more: &[u8]) -> Result<(), Refused>
 }
 
 /// Reads once, and appends what is read. Whether the source is at its end.
-fn read_more<S: Read>(
+pub(crate) fn read_more<S: Read>(
     source: &mut S,
     piece: &mut [u8],
     bytes: &mut Vec<u8>,
@@ -74,7 +74,7 @@ fn read_more<S: Read>(
 }
 
 /// What is said of a source that doesn't end.
-fn endless() -> Refusal {
+pub(crate) fn endless() -> Refusal {
     Refusal::System(io::Error::other("it doesn't end after 2^32 reads"))
 }
 

@@ -101,7 +101,7 @@ pub(crate) fn add<W: World>(
     if let Err(unstored) = look_and_tell(alloc, world, line.folder, line.name) {
         return Err(of_unstored(alloc, unstored, line, extras, components));
     }
-    world.begin_work(Work::Encoding, size);
+    world.begin_work(Work::Encoding, Some(size));
     let encoded = encoded(alloc, line.name, image, plan, extras);
     world.end_work();
     match store(alloc, world, line.folder, &encoded?) {

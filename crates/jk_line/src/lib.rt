@@ -6,6 +6,7 @@ mod adding_all;
 mod archive;
 mod beside;
 mod checking;
+mod encoding;
 mod failure;
 mod keeping;
 mod running;

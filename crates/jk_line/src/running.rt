@@ -1,6 +1,7 @@
 //! Running a command line.
 
-use crate::failure::{Failure, of_file, of_options, of_world};
+use crate::encoding::encode;
+use crate::failure::{Failure, of_file, of_world};
 use crate::status::Status;
 use crate::streams::{create, finish, read, write};
 use crate::viewing::decode_stored;
@@ -9,128 +10,16 @@ use crate::workers::workers;
 use crate::world::{Streams, World};
 use crate::{adding, adding_all, archive, checking, keeping};
 use jk_commands::{
-    EncodeOptions, Plan, cut_file, decode_file_into, decode_file_into_with, decode_rows_into,
-    decode_rows_into_with, decode_window_file_into, encode_file_dressed, encode_file_dressed_with,
-    encode_file_into, encode_file_with, encode_rows_into, first_layers, info_all_file, info_file,
-    judge,
+    cut_file, decode_file_into, decode_file_into_with, decode_rows_into, decode_rows_into_with,
+    decode_window_file_into, first_layers, info_all_file, info_file,
 };
 use jk_jobs::Open;
 use jk_math::Fault;
 use jk_words::{
-    Command, Cutting, Decoding, Defaults, Encoding, FaultLine, Line, Telling, Unasked, Work,
-    cause_of, fault_lines, left_out, read_line,
+    Command, Cutting, Decoding, Defaults, FaultLine, Line, Telling, Unasked, Work, cause_of,
+    fault_lines, left_out, read_line,
 };
 use std::alloc::Global;
-use std::io::Write;
-
-/// The whole file of an image, coded by several workers, and then written.
-fn encode_by<W: World>(
-    alloc: Global,
-    world: &mut W,
-    line: &Encoding<'_>,
-    workers: usize,
-    plan: Plan,
-) -> Result<(), Failure> {
-    let bytes = read(alloc, world, line.input)?;
-    world.begin_work(Work::Encoding, bytes.len() as u64);
-    let encoded = encode_file_with::<W::Runtime, W::Counter>(
-        world.runtime(),
-        alloc,
-        workers,
-        world.counter(),
-        bytes,
-        plan,
-    );
-    world.end_work();
-    match encoded {
-        Ok(file) => write(alloc, world, line.output, &file),
-        Err(fault) => Err(of_options(alloc, fault, &line.options)),
-    }
-}
-
-/// How many components the image of a PGM or PPM file has.
-fn components_in(pixels: &[u8]) -> u16 {
-    if pixels.starts_with(b"P6") { 3 } else { 1 }
-}
-
-/// The whole file of an image that is to keep something beside the samples, which is then written.
-fn encode_dressed<W: World>(
-    alloc: Global,
-    world: &mut W,
-    line: &Encoding<'_>,
-    workers: usize,
-    plan: Plan,
-) -> Result<(), Failure> {
-    keeping::check_container(alloc, &line.options)?;
-    let extras = keeping::asked(alloc, world, &line.kept)?;
-    let bytes = read(alloc, world, line.input)?;
-    let components = components_in(&bytes);
-    world.begin_work(Work::Encoding, bytes.len() as u64);
-    let encoded = if workers > 1 {
-        encode_file_dressed_with::<W::Runtime, W::Counter>(
-            world.runtime(),
-            alloc,
-            workers,
-            world.counter(),
-            bytes,
-            plan,
-            &extras,
-        )
-    } else {
-        encode_file_dressed(alloc, bytes, plan, &extras)
-    };
-    world.end_work();
-    match encoded {
-        Ok(file) => write(alloc, world, line.output, &file),
-        Err(fault) => Err(keeping::of_encoding(alloc, fault, &extras, components, &line.options)),
-    }
-}
-
-/// How many bytes a file has at least whose image is encoded row by row, where it isn't cut into
-/// tiles: the whole image of a smaller one takes little memory, and less time where rows are short.
-const SOME_BYTES: usize = 1 << 20;
-
-/// Encodes the image of a file by one thread.
-fn encode_alone<W: Write>(
-    alloc: Global,
-    bytes: Vec<u8>,
-    plan: Plan,
-    output: &mut W,
-) -> Result<(), Fault> {
-    if bytes.len() < SOME_BYTES && plan.parameters.tile.is_none() {
-        return encode_file_into(alloc, bytes, plan, output);
-    }
-    encode_rows_into(alloc, &bytes, plan, output)
-}
-
-/// `jk encode IN OUT`: how many workers there are, the options, what the file is to keep, then the
-/// input, the image and its encoding. Where the file is to keep nothing, one thread writes it tile by
-/// tile.
-fn encode<W: World>(alloc: Global, world: &mut W, line: &Encoding<'_>) -> Result<(), Failure> {
-    let workers = workers(alloc, line.workers)?;
-    let plan = match judge(alloc, &line.options) {
-        Ok(plan) => plan,
-        Err(fault) => return Err(of_options(alloc, fault, &line.options)),
-    };
-    if !line.kept.is_none() {
-        return encode_dressed(alloc, world, line, workers, plan);
-    }
-    if workers > 1 {
-        return encode_by(alloc, world, line, workers, plan);
-    }
-    let bytes = read(alloc, world, line.input)?;
-    let name = line.output;
-    let mut output = create(alloc, world, name, false)?;
-    world.begin_work(Work::Encoding, bytes.len() as u64);
-    let encoded = encode_alone(alloc, bytes, plan, &mut output);
-    world.end_work();
-    let finished = finish(alloc, world, name, output, encoded.is_ok());
-    match encoded {
-        Ok(()) => finished,
-        Err(Fault::Shelf) => finished.and(Err(Failure::from(Fault::Shelf))),
-        Err(fault) => Err(of_options(alloc, fault, &line.options)),
-    }
-}
 
 /// Writes the image of a file.
 fn decode_image<W: World>(
@@ -190,7 +79,7 @@ fn decode<W: World>(alloc: Global, world: &mut W, line: &Decoding<'_>) -> Result
     let way = way_of(workers, &bytes, line.reduce);
     let is_held = line.window.is_none() && matches!(way, Way::Rows | Way::RowsBy(_));
     let mut output = create(alloc, world, name, is_held)?;
-    world.begin_work(Work::Decoding, bytes.len() as u64);
+    world.begin_work(Work::Decoding, Some(bytes.len() as u64));
     let decoded = match line.window {
         Some(view) => decode_window_file_into(alloc, bytes, view, &mut output),
         None => decode_image(alloc, world, way, bytes, line.reduce, &mut output),

@@ -10,6 +10,11 @@ fn called<'a>(name: &'a str, stream: &'a str) -> &'a str {
     if name == "-" { stream } else { name }
 }
 
+/// A refused input, in words.
+fn unread<W: Streams>(alloc: Global, world: &W, fault: Fault, name: &str) -> Failure {
+    of_world(alloc, world, fault, called(name, "standard input"), "read")
+}
+
 /// All bytes of a file, or of standard input.
 pub(crate) fn read<W: Streams>(
     alloc: Global,
@@ -18,7 +23,32 @@ pub(crate) fn read<W: Streams>(
 ) -> Result<Vec<u8>, Failure> {
     match world.read(alloc, name) {
         Ok(bytes) => Ok(bytes),
-        Err(fault) => Err(of_world(alloc, world, fault, called(name, "standard input"), "read")),
+        Err(fault) => Err(unread(alloc, world, fault, name)),
+    }
+}
+
+/// A file that is to be read from its beginning on, or standard input.
+pub(crate) fn open<W: Streams>(
+    alloc: Global,
+    world: &mut W,
+    name: &str,
+) -> Result<W::Input, Failure> {
+    match world.open(alloc, name) {
+        Ok(input) => Ok(input),
+        Err(fault) => Err(unread(alloc, world, fault, name)),
+    }
+}
+
+/// Ends what was read from its beginning on: whether a read of it was refused.
+pub(crate) fn close<W: Streams>(
+    alloc: Global,
+    world: &mut W,
+    name: &str,
+    input: W::Input,
+) -> Result<(), Failure> {
+    match world.close(input) {
+        Ok(()) => Ok(()),
+        Err(fault) => Err(unread(alloc, world, fault, name)),
     }
 }
 

@@ -28,7 +28,7 @@ pub(crate) fn decode_stored<W: World>(
         Ok(output) => output,
         Err(failure) => return Some(Err(failure)),
     };
-    world.begin_work(Work::Decoding, size as u64);
+    world.begin_work(Work::Decoding, Some(size as u64));
     let decoded = decode_stored_window_into(alloc, stored, size, view, &mut output);
     world.end_work();
     let decoded = decoded?;

@@ -18,9 +18,9 @@ pub(crate) enum Way {
 }
 
 /// Whether workers decode code-blocks of this style before the rows that they are in are made: those of
-/// at least 1,024 coefficients.
+/// at least 64 coefficients.
 fn is_large(style: &CodingStyle) -> bool {
-    style.xcb.min(10) + style.ycb.min(10) >= 10
+    style.xcb.min(10) + style.ycb.min(10) >= 6
 }
 
 /// Whether the code-blocks of all components are large by the main header.

@@ -8,7 +8,7 @@ use jk_stored::Stored;
 use jk_words::Work;
 use std::alloc::Global;
 use std::fmt::Display;
-use std::io::{self, Write};
+use std::io::{self, Read, Write};
 use std::thread::Threads;
 
 /// Files by their names, and the standard streams.
@@ -21,8 +21,23 @@ pub trait Streams {
     /// A file that is read by places.
     type Stored: Stored + Drop;
 
+    /// A file that is read from its beginning on, or standard input.
+    type Input: Read + Drop;
+
     /// All bytes of a file, or of standard input for `-`.
     fn read(&mut self, alloc: Global, name: &str) -> Result<Vec<u8>, Fault>;
+
+    /// How many bytes a regular file has; none for `-`, and where that isn't known before all of them
+    /// are read.
+    fn size(&self, name: &str) -> Option<u64>;
+
+    /// Opens a file to be read from its beginning on, or standard input for `-`. What it gives are the
+    /// bytes that `read` gives.
+    fn open(&mut self, alloc: Global, name: &str) -> Result<Self::Input, Fault>;
+
+    /// Ends what was read from its beginning on. It is refused where a read of it was, but for one that
+    /// was interrupted: such a read is made again.
+    fn close(&mut self, input: Self::Input) -> Result<(), Fault>;
 
     /// A file that is read by places, and how many bytes it has; none for `-`, or where it can't be
     /// read so, as a pipe can't. What the system says of it then isn't kept: `read` meets it again.
@@ -75,9 +90,9 @@ pub trait Working {
     /// From now on nothing is told of how far work is.
     fn be_quiet(&mut self);
 
-    /// From now on it is told how far this work is, on the image of a file of so many bytes, where
-    /// standard error is a terminal.
-    fn begin_work(&mut self, work: Work, size: u64);
+    /// From now on it is told how far this work is, on the image of a file of so many bytes, if it is
+    /// known how many, where standard error is a terminal.
+    fn begin_work(&mut self, work: Work, size: Option<u64>);
 
     /// From now on it is told how many of so many files are done, where standard error is a
     /// terminal.

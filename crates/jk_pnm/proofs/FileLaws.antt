@@ -141,10 +141,10 @@ header_found bytes x e =
     )))))))
 
 -- the header that a text has
-abbrev header_of : Text → ℕ → Header
+abbrev pub header_of : Text → ℕ → Header
 header_of t depth = record { colour = t.colour; width = number_of t.width; height = number_of t.height; maxval = number_of t.maxval; depth = depth }
 
-header_again : (t : Text) (depth : ℕ) → IsText t → 2 ^ depth ≡ number_of t.maxval + 1 → (1 ≤ depth) × (depth ≤ 16) → number_of t.width ≤ 2 ^ 28 → number_of t.height ≤ 2 ^ 28 → number_of t.maxval ≤ 2 ^ 28
+pub header_again : (t : Text) (depth : ℕ) → IsText t → 2 ^ depth ≡ number_of t.maxval + 1 → (1 ≤ depth) × (depth ≤ 16) → number_of t.width ≤ 2 ^ 28 → number_of t.height ≤ 2 ^ 28 → number_of t.maxval ≤ 2 ^ 28
     → number_of t.width * number_of t.height ≤ 2 ^ 28 → header_at (pnm_text t) ≡ Ok (header_of t depth, t.raster)
 unfolding header_at pnm_text
 header_again t depth is bits few w-few h-few m-few area =
@@ -227,10 +227,10 @@ pnm_found bytes p e =
     record { told = o.told; text = o.text; rules = o.rules; shows = subst (λ (q : Picture). ShowsPicture o.told q) p-is shows }
     ))
 
-side_of_area : (a b : ℕ) → 0 < b → a * b ≤ 2 ^ 28 → a ≤ 2 ^ 28
+pub side_of_area : (a b : ℕ) → 0 < b → a * b ≤ 2 ^ 28 → a ≤ 2 ^ 28
 side_of_area a b some area = omega (arith, mul-le-mul_left a some)
 
-maxval_few : (depth m : ℕ) → 2 ^ depth ≡ m + 1 → depth ≤ 16 → m ≤ 2 ^ 28
+pub maxval_few : (depth m : ℕ) → 2 ^ depth ≡ m + 1 → depth ≤ 16 → m ≤ 2 ^ 28
 maxval_few depth m bits few = let high = pow-le-pow_right {n = 2} (lit< tt) few in omega (arith, high)
 
 picture_same : (p : Picture) (w h : ℕ) (planes : List (List ℤ)) → (p.x0 ≡ 0) × (p.y0 ≡ 0) → p.width ≡ w → p.height ≡ h → p.signed ≡ false → p.planes ≡ planes

@@ -4,6 +4,8 @@ pub mod NumberLaws
 pub mod PlaneLaws
 pub mod PictureLaws
 pub mod FileLaws
+pub mod HeadLaws
+pub mod RefusedLaws
 pub mod RowLaws
 pub mod DrawingLaws
 pub mod Tails

@@ -12,6 +12,7 @@ use Rattle.jk_math.specs.declared.fault.Fault.{Fault}
 use Rattle.jk_math.specs.declared.fault.Fault.TheVariants.{BadPnm, Memory}
 use Rattle.jk_pnm.specs.declared.header.Header.{Header}
 use Rattle.jk_pnm.specs.Pnm.{components_of, sample_size, sample_from, plane_from, planes_from}
+use Rattle.jk_pnm.specs.Heads.{with_rows}
 use Rattle.jk_pnm.specs.Reading.{raster_size, samples_of, picture_of, are_below, picture_at}
 use Rattle.jk_pnm.specs.RasterRows.{Drawing, drawn, picture_told, plane_rows, rows_moved, rows_told}
 
@@ -87,10 +88,6 @@ rows_entry w y z i plane d lt = get_or-take ((z - y) * w) (drop (y * w) plane) i
 abbrev pub part_rows : (h : Header) (y z : ℕ) → List ℕ → List ℕ
 part_rows h y z raster =
     part (y * h.width * components_of h.colour * sample_size h.maxval) ((z - y) * h.width * components_of h.colour * sample_size h.maxval) raster
-
--- the header of so many rows
-abbrev pub with_rows : Header → ℕ → Header
-with_rows h rows = record h { height = rows }
 
 plane_part : (h : Header) (y z c : ℕ) (raster : List ℕ) → y ≤ z → z ≤ h.height → c < components_of h.colour
     → plane_from h.maxval (components_of h.colour) (h.width * (z - y)) (part_rows h y z raster) c
@@ -176,7 +173,7 @@ rows_below m w y z (plane ∷ planes) h =
     (all_taken test ((z - y) * w) (drop (y * w) plane) (all_dropped test (y * w) plane both.0)) (rows_below m w y z planes both.1)
 
 -- what is refused of some rows is refused of all
-stripe_refused : (d : Drawing) (y z : ℕ) (e : Fault) → rows_told d y z ≡ Err e → picture_told d ≡ Err e
+pub stripe_refused : (d : Drawing) (y z : ℕ) (e : Fault) → rows_told d y z ≡ Err e → picture_told d ≡ Err e
 unfolding rows_told picture_at
 stripe_refused d y z e is = by (cases_Bool (are_below d.header.maxval (samples_of d.header d.raster)))
   where
@@ -202,7 +199,7 @@ rows_refused view (Ok x) d y z a = tt
 rows_refused view (Err (Memory m)) d y z a = tt
 rows_refused view (Err e) d y z a = stripe_refused d y z e a
 
-stripe_is : (d : Drawing) (y z : ℕ) (p : Picture) → rows_told d y z ≡ Ok p → p ≡ rows_moved (drawn d) y z
+pub stripe_is : (d : Drawing) (y z : ℕ) (p : Picture) → rows_told d y z ≡ Ok p → p ≡ rows_moved (drawn d) y z
 unfolding rows_told
 stripe_is d y z p is = by (are_below d.header.maxval (map (plane_rows d.header.width y z) (samples_of d.header d.raster))) is
   where
@@ -223,7 +220,7 @@ rows_are view (Err e) d y z a = tt
 abbrev pub bytes_of_rows : (row y z : ℕ) → List ℕ → List ℕ
 bytes_of_rows row y z raster = take (z * row - y * row) (drop (y * row) raster)
 
-rows_below_end : (row y z h : ℕ) → y ≤ z → z ≤ h → (z * row ≤ h * row) × (y * row ≤ z * row) × (z * row - y * row ≡ (z - y) * row)
+pub rows_below_end : (row y z h : ℕ) → y ≤ z → z ≤ h → (z * row ≤ h * row) × (y * row ≤ z * row) × (z * row - y * row ≡ (z - y) * row)
 rows_below_end row y z h order inside =
     let more : h ≡ z + (h - z) = omega arith in
     let spread : (z + (h - z)) * row ≡ z * row + (h - z) * row = grind arith in
@@ -232,7 +229,7 @@ rows_below_end row y z h order inside =
     let parted : ((z - y) + y) * row ≡ (z - y) * row + y * row = grind arith in
     let both : z * row ≡ ((z - y) + y) * row = ap (λ n. n * row) sum in (omega (arith, spread, all), omega (arith, parted, both), omega (arith, parted, both))
 
-size_by_rows : (h : Header) (row : ℕ) → row ≡ h.width * components_of h.colour * sample_size h.maxval → raster_size h ≡ h.height * row
+pub size_by_rows : (h : Header) (row : ℕ) → row ≡ h.width * components_of h.colour * sample_size h.maxval → raster_size h ≡ h.height * row
 size_by_rows h row is =
     let turn : h.width * h.height * components_of h.colour * sample_size h.maxval ≡ h.height * (h.width * components_of h.colour * sample_size h.maxval) = grind arith in
     turn ∙ ap (λ n. h.height * n) (sym is)

@@ -5,5 +5,6 @@ pub mod Reading
 pub mod Written
 pub mod Sending
 pub mod Rasters
+pub mod Heads
 pub mod RasterRows
 pub mod Examples

@@ -1,5 +1,5 @@
 -- A PGM or PPM file whose header was read and whose raster wasn't, and the rows of its picture.
-use Rattle.std.specs.Prelude.{◌≡◌, ℕ, ◌+◌, ◌*◌, ◌-◌, ◌^◌, ◌<◌, ◌≤◌, ◌==◌, not, false, List, length, take, drop, map}
+use Rattle.std.specs.Prelude.{◌≡◌, ℕ, ◌+◌, ◌*◌, ◌-◌, ◌^◌, ◌<◌, ◌≤◌, ◌==◌, not, List, length, take, drop, map}
 use Rattle.std.specs.Prelude.{Result, Ok, Err, if◌then◌else◌}
 use Rattle.jk_math.specs.Answer.{◌>>=◌, refuse}
 use Rattle.jk_math.specs.declared.fault.Fault.{Fault}
@@ -7,7 +7,7 @@ use Rattle.jk_math.specs.declared.fault.Fault.TheVariants.{BadPnm}
 use Rattle.jk_math.specs.Picture.{Picture}
 use Rattle.jk_pnm.specs.declared.header.Header.{Header}
 use Rattle.jk_pnm.specs.declared.rasters.RasterFrame.{RasterFrame}
-use Rattle.jk_pnm.specs.Pnm.{components_of}
+use Rattle.jk_pnm.specs.Heads.{frame_headed}
 use Rattle.jk_pnm.specs.Reading.{header_at, raster_size, samples_of, picture_of, are_below, picture_at}
 
 -- what the header of a file says, and the bytes of its raster
@@ -34,13 +34,7 @@ pub record IsDrawing (d : Drawing) : Type 0 where
 
 -- the frame of its picture
 abbrev pub frame_drawn : Drawing → RasterFrame
-frame_drawn d = record {
-  components = components_of d.header.colour;
-  signed = false;
-  width = d.header.width;
-  height = d.header.height;
-  depth = d.header.depth;
-}
+frame_drawn d = frame_headed d.header
 
 -- the picture that its raster says, whose samples may be above maxval
 abbrev pub drawn : Drawing → Picture

@@ -2,10 +2,12 @@
 
 ghost use Rattle.std.specs.Prelude.{◌≡◌, ◌*◌, ◌+◌, ◌<◌, ◌≤◌, ◌^◌, false, length, nat_lt, IfOk};
 ghost use Rattle.jk_math.specs.Answer.{AnswersExactly};
-ghost use Rattle.jk_pnm.specs.Pnm.{is_space, is_line_end, components_of, sample_size};
+ghost use Rattle.jk_pnm.specs.Heads.{frame_headed, row_bytes};
+ghost use Rattle.jk_pnm.specs.Pnm.{is_space, is_line_end, components_of};
 ghost use Rattle.jk_pnm.specs.Reading.{magic_at, after_gap, gap_at, digits_at, number_at, field_at, depth_at};
 ghost use Rattle.jk_pnm.specs.Reading.{raster_size, header_at};
 
+use crate::rasters::RasterFrame;
 use jk_math::Fault;
 
 /// The fields of a PNM file: `P5`, or `P6` with colour; columns; rows; the greatest sample, and its
@@ -41,9 +43,22 @@ impl Header {
         self.maxval > 255
     }
 
+    /// How large the image is, and what its samples are.
+    pub fn frame(&self) -> RasterFrame
+        ensures { result ≡ frame_headed self.now }
+    {
+        RasterFrame {
+            components: if self.colour { 3 } else { 1 },
+            signed: false,
+            width: self.width,
+            height: self.height,
+            depth: self.depth,
+        }
+    }
+
     /// Bytes of a row.
     pub fn row_size(&self) -> usize
-        ensures { result ≡ self.now.width * components_of self.now.colour * sample_size self.now.maxval }
+        ensures { result ≡ row_bytes self.now }
     {
         let samples = self.width as usize * self.components();
         if self.is_wide() { samples * 2 } else { samples }

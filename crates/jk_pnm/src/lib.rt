@@ -2,6 +2,7 @@
 #![tactic(auto)]
 
 mod header;
+mod heads;
 mod pieces;
 mod rasters;
 mod reading;
@@ -9,9 +10,10 @@ mod rows;
 mod theorems;
 mod writing;
 
+pub use heads::{RasterHead, read_head};
 pub use pieces::{write_into, write_raster_into};
 pub use rasters::{RasterFrame, raster, write_head_into, write_rasters_into};
 pub use reading::{read, read_owned};
 pub use rows::{RasterRows, raster_rows};
-pub use theorems::one_picture;
+pub use theorems::{heads_are_read_forward, one_picture, rows_have_their_bytes};
 pub use writing::write;

@@ -79,14 +79,7 @@ impl<'a> RasterRows<'a> {
         // What is drawn is a picture where no sample is above maxval.
         ensures picture_told { IsPicture (drawn self.now) → picture_told self.now ≡ Ok (drawn self.now) }
     {
-        let header = &self.header;
-        RasterFrame {
-            components: if header.colour { 3 } else { 1 },
-            signed: false,
-            width: header.width,
-            height: header.height,
-            depth: header.depth,
-        }
+        self.header.frame()
     }
 
     /// Rows `y` up to `z` of the image, counted from its first one, as an image of their own whose

@@ -3,7 +3,9 @@
 use crate::files;
 use crate::finder::FolderFinder;
 use crate::keeper::{FolderKeeper, tell_waiting};
+use crate::regular::length_of;
 use crate::serving::{Asked, shelves};
+use crate::source::{Source, open_source};
 use crate::stored::{OnDisk, open_stored};
 use jk_files::{Lock, Lockable, Refusal, SharedLock, wait_exclusive, wait_shared};
 use jk_line::{Folders, Meanwhile, Serving, Streams, Work, Working};
@@ -103,9 +105,24 @@ where
 
     type Stored = OnDisk<R::File>;
 
+    type Input = Source<R::File, R::Reader>;
+
     fn read(&mut self, alloc: Global, name: &str) -> Result<Vec<u8>, Fault> {
         let answer = files::read(&self.rt, alloc, name);
         self.kept(answer)
+    }
+
+    fn size(&self, name: &str) -> Option<u64> {
+        length_of(&self.rt, name)
+    }
+
+    fn open(&mut self, _alloc: Global, name: &str) -> Result<Source<R::File, R::Reader>, Fault> {
+        let answer = open_source(&self.rt, name);
+        self.kept_of_system(answer)
+    }
+
+    fn close(&mut self, input: Source<R::File, R::Reader>) -> Result<(), Fault> {
+        self.kept_of_system(input.end())
     }
 
     fn stored(&mut self, _alloc: Global, name: &str) -> Option<(OnDisk<R::File>, usize)> {
@@ -170,7 +187,7 @@ impl<R: Files + Print + Eprint + Clock + Drop + Threads + Wait + Sync> Working f
         self.is_quiet = true;
     }
 
-    fn begin_work(&mut self, work: Work, size: u64) {
+    fn begin_work(&mut self, work: Work, size: Option<u64>) {
         if self.is_quiet {
             return;
         }

@@ -5,7 +5,9 @@ mod files;
 mod finder;
 mod host;
 mod keeper;
+mod regular;
 mod serving;
+mod source;
 mod stored;
 
 use crate::host::Host;

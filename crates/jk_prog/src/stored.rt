@@ -1,8 +1,8 @@
 //! Files that are read by places.
 
+use crate::regular::{Regular, open_regular};
 use jk_math::Fault;
 use jk_stored::Stored;
-use std::fs::{OpenFile, OpenOptions};
 use std::os::unix::fs::FileExt;
 use std::rt::Files;
 
@@ -26,19 +26,7 @@ impl<F: FileExt> Stored for OnDisk<F> {
 
 /// Opens a regular file, links followed, and answers how many bytes it has; none for `-`, and where it
 /// isn't one or can't be opened.
-///
-/// What stands under the name is asked before it is opened, since opening a pipe waits for its other
-/// end.
 pub(crate) fn open_stored<R: Files>(rt: &R, name: &str) -> Option<(OnDisk<R::File>, usize)> {
-    if name == "-" || !rt.metadata(name).ok()?.is_file() {
-        return None;
-    }
-    let mut options = OpenOptions::new();
-    options.read(true);
-    let file = rt.open_file(&options, name).ok()?;
-    let opened = file.metadata().ok()?;
-    if !opened.is_file() {
-        return None;
-    }
-    Some((OnDisk { file }, opened.len() as usize))
+    let Regular { file, length } = open_regular(rt, name)?;
+    Some((OnDisk { file }, length as usize))
 }

@@ -11,7 +11,6 @@ ghost use Rattle.jk_store.specs.declared.digesting.Waiting.TheVariants.{NoFile};
 
 use crate::adding::MOST_ENTRIES;
 use crate::entry::Entry;
-use core::mem::replace_with;
 use jk_digest::{sha256, sha256_of_four};
 use jk_math::Fault;
 use jk_window::Index;
@@ -64,17 +63,16 @@ struct Four {
     d: Undigested,
 }
 
-/// Files that wait and one more, which are four or wait.
-fn joined(waiting: Waiting, file: Undigested) -> (Waiting, Option<Four>)
-    ensures wait { result.1 ≡ None → waiting_entries result.0 ≡ waiting_entries waiting ++ entry_due file ∷ [] }
-    ensures four { IfSome result.1 (λ four. (result.0 ≡ NoFile)
-        × (four_entries four ≡ waiting_entries waiting ++ entry_due file ∷ [])) }
+/// At most two files that wait, and one more.
+fn joined(waiting: Waiting, file: Undigested) -> Waiting
+    requires few { length (waiting_entries waiting) ≤ 2 }
+    ensures more { waiting_entries result ≡ waiting_entries waiting ++ entry_due file ∷ [] }
 {
     match waiting {
-        Waiting::NoFile => (Waiting::OneFile(file), None),
-        Waiting::OneFile(a) => (Waiting::TwoFiles(a, file), None),
-        Waiting::TwoFiles(a, b) => (Waiting::ThreeFiles(a, b, file), None),
-        Waiting::ThreeFiles(a, b, c) => (Waiting::NoFile, Some(Four { a, b, c, d: file })),
+        Waiting::NoFile => Waiting::OneFile(file),
+        Waiting::OneFile(a) => Waiting::TwoFiles(a, file),
+        Waiting::TwoFiles(a, b) => Waiting::ThreeFiles(a, b, file),
+        full => full,
     }
 }
 
@@ -230,9 +228,13 @@ impl Digesting {
         ensures err { IfErr result IsMemory }
     {
         self.size = self.size.saturating_add(file.bytes.capacity());
-        if let Some(four) = replace_with(&mut self.waiting, file, joined) {
-            self.size = 0;
-            return list_four(alloc, &mut self.entries, four);
+        match mem::replace(&mut self.waiting, Waiting::NoFile) {
+            Waiting::ThreeFiles(a, b, c) => {
+                self.size = 0;
+                let four = Four { a, b, c, d: file };
+                return list_four(alloc, &mut self.entries, four);
+            }
+            few => self.waiting = joined(few, file),
         }
         if MOST_WAITING < self.size {
             return self.settle(alloc);
@@ -241,11 +243,16 @@ impl Digesting {
     }
 
     /// The entries of all files.
-    pub(crate) fn finish(mut self, alloc: Global) -> Result<Vec<Arc<Entry>>, Fault>
+    pub(crate) fn finish(self, alloc: Global) -> Result<Vec<Arc<Entry>>, Fault>
         ensures all { IfOk result (λ v. map arc_value v.items ≡ all_entries self) }
         ensures err { IfErr result IsMemory }
     {
-        self.settle(alloc)?;
-        Ok(self.entries)
+        let Digesting {
+            mut entries,
+            waiting,
+            size: _,
+        } = self;
+        list_waiting(alloc, &mut entries, waiting)?;
+        Ok(entries)
     }
 }

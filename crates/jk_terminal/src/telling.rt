@@ -14,8 +14,8 @@ use std::{io, thread};
 /// What is worked on.
 #[derive(Clone, Copy)]
 enum Subject {
-    /// The image of a file of so many bytes, and what is done to it.
-    Image(Work, u64),
+    /// The image of a file of so many bytes, if it is known how many, and what is done to it.
+    Image(Work, Option<u64>),
     /// So many files.
     Files(u64),
 }
@@ -49,7 +49,8 @@ impl Told {
 pub struct Telling {
     told: Mutex<Told>,
     changed: Condvar,
-    /// How many code-blocks workers have coded since work began.
+    /// Of how many jobs of code-blocks, each of one or of several small ones, workers have told since
+    /// work began that they have ended.
     coded: AtomicU64,
     /// How many bytes were written since then.
     written: AtomicU64,
@@ -73,8 +74,8 @@ impl Telling {
         }
     }
 
-    /// Work begins, on the image of a file of so many bytes.
-    pub fn begin<R: Wait + Clock>(&self, rt: &R, work: Work, size: u64) {
+    /// Work begins, on the image of a file of so many bytes, if it is known how many.
+    pub fn begin<R: Wait + Clock>(&self, rt: &R, work: Work, size: Option<u64>) {
         self.begin_on(rt, Subject::Image(work, size));
     }
 
@@ -155,7 +156,7 @@ impl Telling {
     }
 
     /// Tells how far work on an image is.
-    fn tell_image<R: Eprint>(&self, rt: &R, work: Work, size: u64, seconds: u64) {
+    fn tell_image<R: Eprint>(&self, rt: &R, work: Work, size: Option<u64>, seconds: u64) {
         let progress = Progress {
             work,
             size,

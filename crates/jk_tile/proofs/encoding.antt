@@ -26,6 +26,7 @@ pub mod Batches
 pub mod FrontsMeant
 mod BlockRows
 mod StripBlocks
+mod AheadLaws
 mod ListsKept
 mod Waiting
 mod TablesLate

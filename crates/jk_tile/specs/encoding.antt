@@ -2,7 +2,8 @@
 -- (Needs) and code-blocks with their tables (TileWritten), and the packets are made of the tables
 -- in their order (PacketsWritten; TileWriters: what is kept on the way). Jobs: the code-blocks as
 -- they are coded side by side. Fronts: what the first layers of it mean. Strips: code-blocks that
--- are coded as the rows of their sub-band come, and Layered: these before exponents are known.
+-- are coded as the rows of their sub-band come, Layered: these before exponents are known, and
+-- Ahead: these where workers code them side by side before.
 pub mod Forward
 pub mod Needs
 pub mod Written
@@ -12,6 +13,7 @@ pub mod TileWriters
 pub mod Jobs
 pub mod Fronts
 pub mod Layered
+pub mod Ahead
 pub mod Strips
 pub mod LateTables
 pub mod FallenComponents

@@ -15,9 +15,10 @@ pub use decoding::{
     judge_tile, packets_by_precinct, put, read_strip, strip_area, uncolour,
 };
 pub use encoding::{
-    BlockJob, Executor, FallenComponent, FallenTile, FallingComponent, FallingTile, Parallel,
-    Sequential, TileOutline, WrittenComponent, WrittenImage, encode_tile, exponents,
-    exponents_with, packets_of, packets_size, put_values, tile_bands, write_packets,
+    BlockJob, CodedBlocks, Executor, FallenComponent, FallenTile, FallingComponent, FallingTile,
+    Parallel, Sequential, TileOutline, UncodedBlocks, When, WrittenComponent, WrittenImage,
+    code_blocks, encode_tile, exponents, exponents_with, packets_of, packets_size, put_values,
+    tile_bands, write_packets,
 };
 pub use samples::{all_to_samples, level_shift};
 pub use workers::Workers;

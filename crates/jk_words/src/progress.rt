@@ -17,11 +17,11 @@ pub enum Work {
 pub struct Progress {
     /// What is done.
     pub work: Work,
-    /// How many bytes the file has that it is done to.
-    pub size: u64,
+    /// How many bytes the file has that it is done to, if it is known.
+    pub size: Option<u64>,
     /// For how many seconds it has gone on.
     pub seconds: u64,
-    /// How many code-blocks workers have coded.
+    /// How many code-blocks workers have coded at least: of small ones they tell together.
     pub coded: u64,
     /// How many bytes of the new file were written.
     pub written: u64,
@@ -61,10 +61,14 @@ fn name_of(work: Work) -> &'static str {
 
 impl fmt::Display for Progress {
     fn fmt<W: fmt::Write>(&self, f: &mut fmt::Formatter<W>) -> fmt::Result {
-        let size = Megabytes { bytes: self.size };
-        write!(f, "jk: {} {size}, {} s", name_of(self.work), self.seconds)?;
+        write!(f, "jk: {}", name_of(self.work))?;
+        if let Some(bytes) = self.size {
+            let size = Megabytes { bytes };
+            write!(f, " {size}")?;
+        }
+        write!(f, ", {} s", self.seconds)?;
         if self.coded > 0 {
-            write!(f, ", {} code-blocks coded", self.coded)?;
+            write!(f, ", at least {} code-blocks coded", self.coded)?;
         }
         if self.written > 0 {
             let written = Megabytes {

@@ -4,6 +4,8 @@
 #[cfg(test)]
 mod adding;
 #[cfg(test)]
+mod inputs;
+#[cfg(test)]
 mod keeping;
 #[cfg(test)]
 mod lines;

@@ -8,9 +8,10 @@ use jk_stored::MemoryStored;
 use std::alloc::Global;
 use std::collections::BTreeMap;
 use std::fmt::Display;
-use std::io::{self, ErrorKind, Write};
+use std::io::{self, ErrorKind, Read, Write};
 use std::sync::atomic::{AtomicU64, Ordering};
 use std::thread::Threads;
+use vectors::Pieces;
 
 /// How many code-blocks workers have coded.
 #[derive(Drop)]
@@ -40,7 +41,7 @@ pub(crate) struct Memory<'a, R> {
     pub(crate) is_full: bool,
     pub(crate) is_quiet: bool,
     pub(crate) counter: Counter,
-    pub(crate) begun: Vec<(Work, u64)>,
+    pub(crate) begun: Vec<(Work, Option<u64>)>,
     pub(crate) ended: usize,
     /// Of how many files the last work is, and how many of them are done.
     pub(crate) files_begun: u64,
@@ -52,6 +53,11 @@ pub(crate) struct Memory<'a, R> {
     pub(crate) held: usize,
     /// How many files were read by places.
     pub(crate) stored: usize,
+    /// How many inputs were opened to be read in parts, how many of these were read to their end, and
+    /// how they are read.
+    pub(crate) opened: usize,
+    pub(crate) read_whole: usize,
+    pub(crate) reading: Reading,
     said: Option<io::Error>,
 }
 
@@ -80,6 +86,12 @@ impl<'a, R> Memory<'a, R> {
             locks: 0,
             held: 0,
             stored: 0,
+            opened: 0,
+            read_whole: 0,
+            reading: Reading {
+                most: usize::MAX,
+                end: None,
+            },
             said: None,
         }
     }
@@ -88,6 +100,17 @@ impl<'a, R> Memory<'a, R> {
     fn refused(&mut self, kind: ErrorKind) -> Fault {
         self.said = Some(io::Error::from(kind));
         Fault::Shelf
+    }
+
+    /// The bytes of a file, or of standard input.
+    fn bytes_of(&mut self, alloc: Global, name: &str) -> Result<Vec<u8>, Fault> {
+        if name == "-" {
+            return Ok(Vec::from_slice(alloc, &self.input)?);
+        }
+        if let Some(bytes) = self.files.get(name) {
+            return Ok(Vec::from_slice(alloc, bytes)?);
+        }
+        Err(self.refused(ErrorKind::NotFound))
     }
 
     /// Appends a text to standard error.
@@ -104,6 +127,46 @@ impl<'a, R> Memory<'a, R> {
         }
         self.output.extend_from_slice(bytes)?;
         Ok(())
+    }
+}
+
+/// How inputs are read.
+#[derive(Clone, Copy)]
+pub(crate) struct Reading {
+    /// How many bytes a read gives at most.
+    pub(crate) most: usize,
+    /// Behind how many bytes reads fail, if they do.
+    pub(crate) end: Option<usize>,
+}
+
+/// What reads that fail say.
+const FAILED: ErrorKind = ErrorKind::TimedOut;
+
+/// What is read in parts. Every other read is interrupted.
+#[derive(Drop)]
+pub(crate) struct Opened {
+    pieces: Pieces,
+    was_interrupted: bool,
+    has_ended: bool,
+    has_failed: bool,
+}
+
+impl Read for Opened {
+    fn read(&mut self, room: &mut [u8]) -> io::Result<usize> {
+        self.was_interrupted = !self.was_interrupted;
+        if self.was_interrupted {
+            return Err(io::Error::from(ErrorKind::Interrupted));
+        }
+        match self.pieces.read(room) {
+            Ok(count) => {
+                self.has_ended |= count == 0;
+                Ok(count)
+            }
+            Err(_) => {
+                self.has_failed = true;
+                Err(io::Error::from(FAILED))
+            }
+        }
     }
 }
 
@@ -130,14 +193,43 @@ impl<'a, R: Threads + Sync> Streams for Memory<'a, R> {
 
     type Stored = MemoryStored;
 
+    type Input = Opened;
+
     fn read(&mut self, alloc: Global, name: &str) -> Result<Vec<u8>, Fault> {
-        if name == "-" {
-            return Ok(Vec::from_slice(alloc, &self.input)?);
+        let bytes = self.bytes_of(alloc, name)?;
+        match self.reading.end {
+            Some(_) => Err(self.refused(FAILED)),
+            None => Ok(bytes),
         }
-        if let Some(bytes) = self.files.get(name) {
-            return Ok(Vec::from_slice(alloc, bytes)?);
+    }
+
+    fn size(&self, name: &str) -> Option<u64> {
+        Some(self.files.get(name)?.len() as u64)
+    }
+
+    fn open(&mut self, alloc: Global, name: &str) -> Result<Opened, Fault> {
+        let mut bytes = self.bytes_of(alloc, name)?;
+        self.opened = self.opened.saturating_add(1);
+        let Reading { most, end } = self.reading;
+        if let Some(end) = end {
+            bytes.truncate(end);
         }
-        Err(self.refused(ErrorKind::NotFound))
+        Ok(Opened {
+            pieces: Pieces::new(bytes, most, end.is_some()),
+            was_interrupted: false,
+            has_ended: false,
+            has_failed: false,
+        })
+    }
+
+    fn close(&mut self, input: Opened) -> Result<(), Fault> {
+        if input.has_failed {
+            return Err(self.refused(FAILED));
+        }
+        if input.has_ended {
+            self.read_whole = self.read_whole.saturating_add(1);
+        }
+        Ok(())
     }
 
     fn stored(&mut self, alloc: Global, name: &str) -> Option<(MemoryStored, usize)> {
@@ -217,7 +309,7 @@ impl<'a, R: Threads + Sync> Working for Memory<'a, R> {
         self.is_quiet = true;
     }
 
-    fn begin_work(&mut self, work: Work, size: u64) {
+    fn begin_work(&mut self, work: Work, size: Option<u64>) {
         let _ = self.begun.push((work, size));
     }
 

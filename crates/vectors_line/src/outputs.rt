@@ -1,7 +1,7 @@
 //! Where the rows of an image go that are decoded before a fault behind them is met.
 
 use crate::memory::Memory;
-use crate::runs::{bytes, check_run, put_file};
+use crate::runs::{bytes, check_run, put_file, written};
 use jk_line::Status;
 use std::alloc::Global;
 use std::process::Abort;
@@ -95,4 +95,26 @@ fn check_full<R: Abort + Threads + Sync>(rt: &R, alloc: Global, end: &str, error
 fn faults_of_the_file_go_first(rt: HostRuntime) {
     check_full(&rt, rt.alloc(), SOUND, "jk: F20 Shelf\n");
     check_full(&rt, rt.alloc(), DAMAGED, "jk: F5 BadValue\n");
+}
+
+/// Options for code-blocks of 64 and of 32 coefficients, and how many outputs are held where workers
+/// decode them.
+static BLOCKS: [(&str, usize); 2] = [
+    ("--block-x 3 --block-y 3", 1),
+    ("--block-x 2 --block-y 3", 0),
+];
+
+/// Workers decode code-blocks row by row that have 64 coefficients at least, and smaller ones whole.
+#[test]
+fn small_code_blocks_are_decoded_whole(rt: HostRuntime) {
+    let alloc = rt.alloc();
+    for (options, held) in BLOCKS {
+        let line = format!(in alloc; "encode - - {options}").expect(&rt, "a text");
+        let file = written(&rt, alloc, line.as_str(), bytes(&rt, alloc, &[TEXT]));
+        let mut world = Memory::new(&rt, alloc, file);
+        let text = bytes(&rt, alloc, &[TEXT]);
+        let line = "decode - - --workers 2";
+        check_run(&rt, alloc, &mut world, line, Status::Done, &text, "");
+        equal_at(options, world.held, held).expect(&rt, "outputs held");
+    }
 }

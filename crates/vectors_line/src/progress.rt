@@ -1,8 +1,8 @@
 //! How far work is, in words, and what a world is told of it.
 
+use crate::inputs::world_with;
 use crate::lines::{COLUMN, GREY};
-use crate::memory::Memory;
-use crate::runs::{bytes, run_line, world_of};
+use crate::runs::{bytes, put_file, run_line, world_of};
 use jk_line::{FilesProgress, Progress, Status, Work};
 use std::alloc::Global;
 use std::fmt::Display;
@@ -23,17 +23,20 @@ fn progress_in_words(rt: HostRuntime) {
     let alloc = rt.alloc();
     let mut progress = Progress {
         work: Work::Encoding,
-        size: 67_108_901,
+        size: Some(67_108_901),
         seconds: 12,
         coded: 0,
         written: 0,
     };
     check_words(&rt, alloc, progress, "jk: encoding 67.1 MB, 12 s");
     progress.coded = 4096;
-    let words = "jk: encoding 67.1 MB, 12 s, 4096 code-blocks coded";
+    let words = "jk: encoding 67.1 MB, 12 s, at least 4096 code-blocks coded";
+    check_words(&rt, alloc, progress, words);
+    progress.size = None;
+    let words = "jk: encoding, 12 s, at least 4096 code-blocks coded";
     check_words(&rt, alloc, progress, words);
     progress.work = Work::Decoding;
-    progress.size = 99_999;
+    progress.size = Some(99_999);
     progress.coded = 0;
     progress.written = 1_234_567_890;
     check_words(
@@ -63,9 +66,10 @@ fn check_told<R: Abort + Threads + Sync>(
     input: &str,
     status: Status,
     work: Work,
-    size: u64,
+    size: Option<u64>,
 ) {
     let mut world = world_of(rt, alloc, bytes(rt, alloc, &[input]), &[]);
+    put_file(rt, alloc, &mut world, "in", input);
     let found = run_line(rt, alloc, &mut world, line);
     let is_begun = world.begun.as_slice() == [(work, size)].as_slice();
     let found = (found, is_begun, world.ended, world.is_quiet);
@@ -80,7 +84,7 @@ fn work_is_told_of(rt: HostRuntime) {
     let alloc = rt.alloc();
     let (done, refused) = (Status::Done, Status::Refused);
     let (encoding, decoding) = (Work::Encoding, Work::Decoding);
-    check_told(&rt, alloc, "encode - -", GREY, done, encoding, 12);
+    check_told(&rt, alloc, "encode - -", GREY, done, encoding, None);
     check_told(
         &rt,
         alloc,
@@ -88,10 +92,20 @@ fn work_is_told_of(rt: HostRuntime) {
         GREY,
         done,
         encoding,
-        12,
+        None,
     );
-    check_told(&rt, alloc, "encode - -", "00", refused, encoding, 1);
-    check_told(&rt, alloc, "add d a -", GREY, done, encoding, 12);
+    check_told(&rt, alloc, "encode - -", "00", refused, encoding, None);
+    check_told(&rt, alloc, "encode in -", GREY, done, encoding, Some(12));
+    check_told(
+        &rt,
+        alloc,
+        "encode in - --tile-width 1 --tile-height 1",
+        GREY,
+        done,
+        encoding,
+        Some(12),
+    );
+    check_told(&rt, alloc, "add d a -", GREY, done, encoding, Some(12));
     check_told(
         &rt,
         alloc,
@@ -99,7 +113,7 @@ fn work_is_told_of(rt: HostRuntime) {
         COLUMN,
         done,
         decoding,
-        100,
+        Some(100),
     );
     check_told(
         &rt,
@@ -108,7 +122,7 @@ fn work_is_told_of(rt: HostRuntime) {
         COLUMN,
         done,
         decoding,
-        100,
+        Some(100),
     );
     check_told(
         &rt,
@@ -117,25 +131,38 @@ fn work_is_told_of(rt: HostRuntime) {
         COLUMN,
         done,
         decoding,
-        100,
+        Some(100),
     );
-    check_told(&rt, alloc, "decode - -", "FF", refused, decoding, 1)
+    check_told(&rt, alloc, "decode - -", "FF", refused, decoding, Some(1))
 }
 
-/// An image three code-blocks wide and two high without levels has six code-blocks (T.800 B.7), of
-/// which several workers tell, and one none.
+/// A command line over an image 130 wide, in standard input and in the file `in`, how many rows it has,
+/// and how often workers tell of code-blocks.
+static CODED: [(&str, usize, u64); 4] = [
+    ("encode in - --levels 0 --workers 2", 70, 6),
+    ("encode - - --levels 0 --workers 2", 70, 3),
+    (
+        "encode in - --levels 0 --workers 2 --tile-width 130 --tile-height 70",
+        140,
+        6,
+    ),
+    ("encode - - --levels 0", 70, 0),
+];
+
+/// An image three code-blocks wide and two high without levels has six code-blocks (T.800 B.7). Several
+/// workers tell of each, where it is encoded whole; row by row of small ones together, here of the
+/// narrow one at the right and the three low ones behind it, and of two tiles twice as often. One
+/// worker tells nothing.
 #[test]
 fn code_blocks_are_counted(rt: HostRuntime) {
     let alloc = rt.alloc();
-    for (line, coded) in [
-        ("encode - - --levels 0 --workers 2", 6),
-        ("encode - - --levels 0", 0),
-    ] {
-        let mut input = bytes(&rt, alloc, &["50350A 313330 20 3730 0A 323535 0A"]);
-        input
-            .resize(input.len() + 130 * 70, 7)
+    for (line, rows, coded) in CODED {
+        let head = format!(in alloc; "P5 130 {rows} 255\n").expect(&rt, "a text");
+        let mut image = Vec::from_slice(alloc, head.as_bytes()).expect(&rt, "a head");
+        image
+            .resize(image.len() + 130 * rows, 7)
             .expect(&rt, "samples");
-        let mut world = Memory::new(&rt, alloc, input);
+        let mut world = world_with(&rt, alloc, &image);
         let status = run_line(&rt, alloc, &mut world, line);
         let found = (status, world.counter.coded.load(Ordering::SeqCst));
         equal_at((line, world.error.as_str()), found, (Status::Done, coded)).expect(&rt, "a count");

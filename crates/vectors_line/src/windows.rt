@@ -198,11 +198,11 @@ fn windows_of_files_are_told_of(rt: HostRuntime) {
             &rt, "a text",
         );
         let status = run_line(&rt, alloc, &mut world, line.as_str());
-        let sizes = match world.begun.first() {
+        let size = match world.begun.first() {
             Some((_, size)) => *size,
-            None => 0,
+            None => None,
         };
-        let found = (status, world.begun.len(), world.ended, sizes);
-        equal_at(name, found, (Status::Done, 1, 1, 100)).expect(&rt, "what a world is told");
+        let found = (status, world.begun.len(), world.ended, size);
+        equal_at(name, found, (Status::Done, 1, 1, Some(100))).expect(&rt, "what a world is told");
     }
 }

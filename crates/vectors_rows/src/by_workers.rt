@@ -16,8 +16,8 @@ use vectors::{Meeting, equal, equal_at};
 
 /// A gate at which the first code-block meets the second.
 #[derive(Drop)]
-struct Held {
-    meeting: Meeting,
+pub(crate) struct Held {
+    pub(crate) meeting: Meeting,
 }
 
 impl Gate for Held {
@@ -49,7 +49,7 @@ impl Rows for Kept {
 }
 
 /// Four code-blocks of 64 by 64 side by side, without a level.
-fn noisy(alloc: Global) -> Result<Image, Fail> {
+pub(crate) fn noisy(alloc: Global) -> Result<Image, Fail> {
     let mut chance = Chance { state: 29 };
     let mut planes = Vec::new(alloc);
     planes.push(plane(alloc, &mut chance, 256 * 64, 8, false)?)?;
@@ -57,7 +57,7 @@ fn noisy(alloc: Global) -> Result<Image, Fail> {
 }
 
 /// The parameters of its file, with so many levels.
-fn with_levels(alloc: Global, levels: u8) -> Parameters {
+pub(crate) fn with_levels(alloc: Global, levels: u8) -> Parameters {
     Parameters {
         levels,
         layers: 1,

@@ -1,25 +1,29 @@
 //! What `jk encode` makes of PGM and PPM files by chance: row by row what it makes of whole images.
 
 use crate::chance::{Chance, parameters};
-use jk_commands::{Plan, encode_file_into, encode_rows_into};
+use jk_commands::{Plan, encode_file_into, encode_rows_from, encode_rows_into};
+use jk_jobs::Open;
+use jk_math::Fault;
 use std::alloc::Global;
 use std::fmt::Write;
+use std::marker::Sync;
 use std::process::Abort;
 use std::test::Fail;
+use std::thread::Threads;
 use vectors::equal;
 
 /// How large a file is, and where a sample of it is above maxval.
 #[derive(Clone, Copy)]
-struct Drawing {
-    colour: bool,
-    width: u32,
-    height: u32,
-    depth: u8,
-    spoiled: Option<u32>,
+pub(crate) struct Drawing {
+    pub(crate) colour: bool,
+    pub(crate) width: u32,
+    pub(crate) height: u32,
+    pub(crate) depth: u8,
+    pub(crate) spoiled: Option<u32>,
 }
 
 /// The bytes of a file.
-fn file(alloc: Global, chance: &mut Chance, drawing: Drawing) -> Result<Vec<u8>, Fail> {
+pub(crate) fn file(alloc: Global, chance: &mut Chance, drawing: Drawing) -> Result<Vec<u8>, Fail> {
     let maxval = (1u64 << drawing.depth.min(16)) as u32 - 1;
     let mut head = String::new(alloc);
     let magic = if drawing.colour { "P6" } else { "P5" };
@@ -49,7 +53,7 @@ fn file(alloc: Global, chance: &mut Chance, drawing: Drawing) -> Result<Vec<u8>,
 }
 
 /// How it is encoded.
-fn plan(alloc: Global, chance: &mut Chance, drawing: Drawing) -> Result<Plan, Fail> {
+pub(crate) fn plan(alloc: Global, chance: &mut Chance, drawing: Drawing) -> Result<Plan, Fail> {
     let mut parameters = parameters(alloc, chance, 1)?;
     parameters.colour = chance.tossed();
     if chance.below(4) == 0 {
@@ -73,7 +77,11 @@ fn plan(alloc: Global, chance: &mut Chance, drawing: Drawing) -> Result<Plan, Fa
 }
 
 /// A file by chance.
-fn one_case(rt: &impl Abort, alloc: Global, chance: &mut Chance) -> Result<(), Fail> {
+fn one_case<R: Threads + Sync + Abort>(
+    rt: &R,
+    alloc: Global,
+    chance: &mut Chance,
+) -> Result<(), Fail> {
     let mut drawing = Drawing {
         colour: chance.tossed(),
         width: 1 + chance.below(9),
@@ -98,12 +106,22 @@ fn one_case(rt: &impl Abort, alloc: Global, chance: &mut Chance) -> Result<(), F
     let mut again = Chance {
         state: chance.state,
     };
+    let mut by_workers = Chance {
+        state: chance.state,
+    };
     let mut rows = Vec::new(alloc);
     let told = encode_rows_into(alloc, &bytes, plan(alloc, chance, drawing)?, &mut rows);
+    let mut worked = Vec::new(alloc);
+    let workers = 1 + drawing.height as usize % 5;
+    let by = plan(alloc, &mut by_workers, drawing)?;
+    let mut source = bytes.as_slice();
+    let told_by = encode_rows_from(rt, alloc, workers, &Open, &mut source, by, &mut worked);
     let mut whole = Vec::new(alloc);
     let due = encode_file_into(alloc, bytes, plan(alloc, &mut again, drawing)?, &mut whole);
     equal(told, due).expect(rt, "what is due");
     equal(rows.as_slice(), whole.as_slice()).expect(rt, "what is due");
+    equal(told_by, due).expect(rt, "what is due by workers");
+    equal(worked.as_slice(), whole.as_slice()).expect(rt, "what is due by workers");
     Ok(())
 }
 
@@ -112,6 +130,29 @@ fn files_of_drawings(rt: HostRuntime) -> Result<(), Fail> {
     let mut chance = Chance { state: 67 };
     for _ in 0..60 {
         one_case(&rt, rt.alloc(), &mut chance)?;
+    }
+    Ok(())
+}
+
+/// Workers out of range are refused before all else, and nothing is read or written.
+#[test]
+fn too_few_and_too_many_workers(rt: HostRuntime) -> Result<(), Fail> {
+    let alloc = rt.alloc();
+    let drawing = Drawing {
+        colour: false,
+        width: 3,
+        height: 2,
+        depth: 8,
+        spoiled: None,
+    };
+    for workers in [0, 65] {
+        let asked = plan(alloc, &mut Chance { state: 72 }, drawing)?;
+        let mut rows = Vec::new(alloc);
+        let mut source = b"P9".as_slice();
+        let told = encode_rows_from(&rt, alloc, workers, &Open, &mut source, asked, &mut rows);
+        equal(told, Err(Fault::BadParameters)).expect(&rt, "what is due");
+        equal(source.len(), 2).expect(&rt, "what is left");
+        equal(rows.len(), 0).expect(&rt, "what is due");
     }
     Ok(())
 }

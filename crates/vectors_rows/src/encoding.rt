@@ -39,10 +39,10 @@ fn rows(alloc: Global, image: &Image, y: u32, end: u32) -> Result<Image, Fault>
 
 /// Gives the rows of an image, so many stripes of them, and then a fault.
 #[derive(Drop)]
-struct Supply<'a> {
-    image: &'a Image,
-    next: u32,
-    left: u32,
+pub(crate) struct Supply<'a> {
+    pub(crate) image: &'a Image,
+    pub(crate) next: u32,
+    pub(crate) left: u32,
 }
 
 impl<'a> RowSupply for Supply<'a> {
@@ -114,10 +114,10 @@ fn encoded<W: Write>(
 }
 
 /// How an encoder ended, and what it wrote.
-type Written = (Result<(), Fault>, Vec<u8>);
+pub(crate) type Written = (Result<(), Fault>, Vec<u8>);
 
 /// What an image encoded whole gives.
-fn whole(alloc: Global, image: &Image, given: &Parameters) -> Written {
+pub(crate) fn whole(alloc: Global, image: &Image, given: &Parameters) -> Written {
     let mut bytes = Vec::new(alloc);
     let told = encode_into(alloc, image, given, &mut bytes);
     (told, bytes)
@@ -189,7 +189,11 @@ const ORDERS: [Order; 5] = [
 
 /// Parameters by chance, of any order, with and without markers, in any container, which not every
 /// image may have.
-fn any_parameters(alloc: Global, chance: &mut Chance, image: &Image) -> Result<Parameters, Fail> {
+pub(crate) fn any_parameters(
+    alloc: Global,
+    chance: &mut Chance,
+    image: &Image,
+) -> Result<Parameters, Fail> {
     let mut given = parameters(alloc, chance, image.planes().len())?;
     given.order = ORDERS[chance.below(5) as usize];
     given.sop = chance.tossed();
@@ -210,7 +214,7 @@ fn images(rt: &impl Abort, alloc: Global, state: u32, kind: Kind, count: u32) ->
 }
 
 /// Of at most 24 columns, 30 rows and 16 bits.
-const fn kind(signed: bool) -> Kind {
+pub(crate) const fn kind(signed: bool) -> Kind {
     Kind {
         columns: 24,
         rows: 30,

@@ -10,7 +10,11 @@ mod drawings;
 #[cfg(test)]
 mod encoding;
 #[cfg(test)]
+mod encoding_by_workers;
+#[cfg(test)]
 mod files;
+#[cfg(test)]
+mod sources;
 #[cfg(test)]
 mod suiting;
 #[cfg(test)]

@@ -1,21 +1,22 @@
 -- Code-blocks that were decoded by workers.
 use Rattle.std.proofs.Common.{◌≡◌, ℕ, List, [], ◌∷◌, All, Result, Ok, Err, IfOk, subst}
+use Rattle.std.specs.Global.{Vec}
 use Rattle.std.specs.List.{AllZip}
 use Rattle.std.proofs.lemmas.List.Elements.{All-nil, All-cons, All-head, All-tail, All-same}
 use Rattle.jk_math.specs.declared.fault.Fault.{Fault}
 use Rattle.jk_tile.specs.declared.decoding.decoded.SegmentJob.{SegmentJob}
 use Rattle.jk_tile.specs.declared.decoding.decoded.DecodedBlock.{DecodedBlock}
 use Rattle.jk_tile.specs.declared.decoding.decoded.DecodedBlocks.{DecodedBlocks}
-use Rattle.jk_tile.specs.decoding.Decoded.{IsDecoded, AreDecoded, IsDecodedFrom, IsJobOf}
+use Rattle.jk_tile.specs.decoding.Decoded.{IsDecoded, AreDecoded, AreDecodedFrom, AreBlocksOf, IsJobOf}
 
 -- What jobs of one codestream give are code-blocks of it.
-pub all_decoded : (bytes : List ℕ) (jobs : List SegmentJob) (items : List DecodedBlock) → All (IsJobOf bytes) jobs
-    → AllZip (λ j d. IsDecodedFrom j (Ok d)) jobs items → All (IsDecoded bytes) items
-all_decoded bytes [] [] all z = All-nil (IsDecoded bytes)
+pub all_decoded : (bytes : List ℕ) (jobs : List SegmentJob) (items : List (Vec DecodedBlock)) → All (IsJobOf bytes) jobs
+    → AllZip (λ j d. AreDecodedFrom j (Ok d)) jobs items → All (AreBlocksOf bytes) items
+all_decoded bytes [] [] all z = All-nil (AreBlocksOf bytes)
 all_decoded bytes [] (d ∷ items) all z = absurd z
 all_decoded bytes (j ∷ jobs) [] all z = absurd z
 all_decoded bytes (j ∷ jobs) (d ∷ items) all z =
-    All-cons (IsDecoded bytes) d items (subst (λ (b : List ℕ). IsDecoded b d) (All-head (IsJobOf bytes) j jobs all).bytes_are z.0)
+    All-cons (AreBlocksOf bytes) d items (subst (λ (b : List ℕ). AreBlocksOf b d) (All-head (IsJobOf bytes) j jobs all).bytes_are z.0)
     (all_decoded bytes jobs items (All-tail (IsJobOf bytes) j jobs all) z.1)
 
 -- They are found among these.

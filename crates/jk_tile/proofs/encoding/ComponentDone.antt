@@ -16,11 +16,11 @@ use Rattle.jk_tile.specs.TileBlocks.{band_resolution, band_index}
 use Rattle.jk_tile.specs.encoding.Strips.{ComponentFrame, IsFrame, band_at, bands_in, own_band, AreCodedAbove, HasRowsOf}
 use Rattle.jk_tile.specs.encoding.LateTables.{HoldBlocks, HaveBlocks}
 use Rattle.jk_tile.specs.encoding.FallenComponents.{fallen_band, IsFallenBand, IsCodedBand, IsFallen, IsCodedOf, HaveRoom}
-use Rattle.jk_tile.specs.encoding.FallingComponents.{IsBandUpto, AreBandsUpto, HaveRowsOf}
+use Rattle.jk_tile.specs.encoding.FallingComponents.{IsBandUpto, AreBandsUpto, HaveRowsOf, NoneWait}
 use Rattle.jk_tile.specs.declared.encoding.strips.BandStrips.{BandStrips}
 use Rattle.jk_tile.specs.declared.encoding.fallen.FallenBand.{FallenBand}
 use Rattle.jk_tile.specs.declared.encoding.fallen.FallenComponent.{FallenComponent}
-use Rattle.jk_tile.proofs.encoding.Waiting.{planes_more}
+use Rattle.jk_tile.proofs.encoding.Waiting.{planes_more, waiting_none}
 use Rattle.jk_tile.proofs.encoding.WrittenBlocks.{number_few}
 use Rattle.jk_tile.proofs.encoding.ComponentFalls.{AreKnown, some_of, is_named, area_is, own_is, fallen_last}
 
@@ -50,11 +50,11 @@ bits_all known s f b x frame lt is has =
     has.bits ∙ ap (λ m. bit_length (greatest (raster (rows_between own own.y0 m) (f (band_number x.resolution x.band))))) (rows_end known s b x frame lt is)
     ∙ ap (λ n. bit_length (greatest (raster own (f n)))) number ∙ ap (λ (a : Rect). bit_length (greatest (raster a (f b)))) (own_is s s.rect.y1 b x is ∙ sym (area_is s b lt))
 
-coded_all : AreKnown → (s : ComponentFrame) (f : ℕ → ℕ → ℕ → ℤ) (b : ℕ) (x : BandStrips) → IsFrame s → b < bands_in s → IsBandUpto s s.rect.y1 b x → HasRowsOf s f x
+coded_all : AreKnown → (s : ComponentFrame) (f : ℕ → ℕ → ℕ → ℤ) (b : ℕ) (x : BandStrips) → IsFrame s → b < bands_in s → IsBandUpto s s.rect.y1 b x → length x.waiting.items ≡ 0 → HasRowsOf s f x
     → AreCodedAbove s f (band_resolution b) (band_index b) (band_at s (band_resolution b) (band_index b)).y1 (lists_of x.blocks.items)
-coded_all known s f b x frame lt is has =
+coded_all known s f b x frame lt is none has =
     let blocks = lists_of x.blocks.items in
-    let upto : AreCodedAbove s f x.resolution x.band (own_band s x).y1 blocks = subst (λ y. AreCodedAbove s f x.resolution x.band y blocks) (none_wait known s b x frame lt is) has.blocks in
+    let upto : AreCodedAbove s f x.resolution x.band (own_band s x).y1 blocks = subst (λ y. AreCodedAbove s f x.resolution x.band y blocks) (waiting_none s x.resolution x.band x.bits x.top x.area.y0 x.waiting.items none is.holds.0.waiting ∙ none_wait known s b x frame lt is) has.blocks in
     subst (λ i. AreCodedAbove s f (band_resolution b) i (band_at s (band_resolution b) i).y1 blocks) is.band (subst (λ r. AreCodedAbove s f r x.band (band_at s r x.band).y1 blocks) is.resolution upto)
 
 -- ---- all sub-bands
@@ -72,16 +72,16 @@ fallen_bands s e all kept is are b other lt =
     subst (IsFallenBand s b) (sym (ap (λ (l : List FallenBand). get_or l b other) is ∙ get_or-map fallen_band all b one other (omega (arith, lt, count))))
     (record { count = own.holds.0.count ∙ ap (precinct_number s.rect s.coding) own.resolution; planes = own.holds.0.planes })
 
-pub coded_bands : AreKnown → (s : ComponentFrame) (f : ℕ → ℕ → ℕ → ℤ) (all : List BandStrips) (kept : List FallenBand) → IsFrame s → kept ≡ map fallen_band all → AreBandsUpto s s.rect.y1 all → HaveRowsOf s f all
+pub coded_bands : AreKnown → (s : ComponentFrame) (f : ℕ → ℕ → ℕ → ℤ) (all : List BandStrips) (kept : List FallenBand) → IsFrame s → kept ≡ map fallen_band all → AreBandsUpto s s.rect.y1 all → NoneWait s all → HaveRowsOf s f all
     → (b : ℕ) (other : FallenBand) → b < bands_in s → IsCodedBand s f b (get_or kept b other)
-coded_bands known s f all kept frame is are have b other lt =
+coded_bands known s f all kept frame is are none have b other lt =
     let count = are.count in
     let one = some_of BandStrips all b (omega (arith, lt, count)) in
     let x = get_or all b one in
     let own = are.each b one lt in
     let has = have b one lt in
     subst (IsCodedBand s f b) (sym (ap (λ (l : List FallenBand). get_or l b other) is ∙ get_or-map fallen_band all b one other (omega (arith, lt, count))))
-    (record { blocks = coded_all known s f b x frame lt own has; bits = bits_all known s f b x frame lt own has })
+    (record { blocks = coded_all known s f b x frame lt own (none b one lt) has; bits = bits_all known s f b x frame lt own has })
 
 -- ---- by resolution
 

@@ -315,6 +315,10 @@ rows_put s d e b end f x rows lt is e_is made =
 pub next_band : (s : ComponentFrame) (d e b end : ℕ) (x new : BandStrips) → IsBandUpto s d b x → end ≡ band_fallen s e x.resolution x.band → new.resolution ≡ x.resolution → new.band ≡ x.band → new.area.y1 ≡ end → IsBetweenRows s new → IsBandUpto s e b new
 next_band s d e b end x new is e_is er ei next holds = record { resolution = er ∙ is.resolution; band = ei ∙ is.band; next = next ∙ end_is s d e b end x is e_is; holds = holds }
 
+-- and the same ones stand before the same row
+pub band_stays : (s : ComponentFrame) (e b : ℕ) (x new : BandStrips) → IsBandUpto s e b x → new.resolution ≡ x.resolution → new.band ≡ x.band → new.area ≡ x.area → IsBetweenRows s new → IsBandUpto s e b new
+band_stays s e b x new is er ei ea holds = record { resolution = er ∙ is.resolution; band = ei ∙ is.band; next = ap (λ (a : Rect). a.y1) ea ∙ is.next; holds = holds }
+
 -- ---- all of it
 
 nothing_fallen : (rect : Rect) (levels d e n o : ℕ) (f : ℕ → ℕ → ℤ) → d ≡ e → fallen_rows rect levels d e f n o ≡ []

@@ -17,19 +17,20 @@ use Rattle.jk_geom.specs.Rectangles.{IsWithin, is_empty, meet, cell, resolution_
 use Rattle.jk_geom.specs.Precincts.{precincts_across, precincts_down, precinct_number, precinct_area, precinct_column, precinct_row, part_width, part_height}
 use Rattle.jk_math.specs.declared.orientation.Orientation.{Orientation}
 use Rattle.jk_scan.specs.declared.shape.BlockShape.{BlockShape}
-use Rattle.jk_geom.specs.Blocks.{block_area, block_grid}
+use Rattle.jk_geom.specs.Blocks.{IsGrid, block_area, block_grid}
 use Rattle.jk_geom.specs.Partitions.{BlockHolds, block_number, precinct_of}
 use Rattle.jk_geom.proofs.BlockLaws.{block_part, precinct_found}
 use Rattle.jk_geom.proofs.Cells.{cell_from, cell_to, cell_within}
-use Rattle.jk_block.specs.BlockWritten.{greatest, Coded, coded}
+use Rattle.jk_block.specs.BlockWritten.{greatest, coded}
 use Rattle.jk_block.proofs.Laws.{greatest_small}
 use Rattle.jk_walk.specs.TilePackets.{band_number}
 use Rattle.jk_tile.specs.Filling.{IsPartOf}
 use Rattle.jk_tile.specs.TileBlocks.{orientation_at, grid_at, block_at_place, block_shape, shape_of_area, IsBlockShape}
 use Rattle.jk_tile.specs.decoding.Strips.{block_exponent}
 use Rattle.jk_tile.specs.encoding.Layered.{Layered, layered}
-use Rattle.jk_tile.specs.encoding.Strips.{ComponentFrame, IsFrame, IsWholeRow, band_at, blocks_above, first_precinct_at, layered_at, layered_between}
-use Rattle.jk_tile.specs.declared.encoding.strips.Strip.{Strip}
+use Rattle.jk_tile.specs.encoding.Strips.{ComponentFrame, IsFrame, IsWholeRow, IsOfPart, IsRowPart, row_values, band_at, blocks_above, first_precinct_at, layered_at, layered_between}
+use Rattle.jk_tile.specs.declared.encoding.row_coding.Strip.{Strip}
+use Rattle.jk_tile.specs.declared.encoding.row_coding.RowPart.{RowPart}
 use Rattle.jk_tile.proofs.Places.{is_band, block_place, block_is_shape}
 use Rattle.jk_tile.proofs.AllBands.{range_join}
 use Rattle.jk_tile.proofs.decoding.StripLaws.{div_powers, exponent_is, within_row, row_blocks}
@@ -337,10 +338,6 @@ part_none s w f n grid old is e out =
     ])))
 
 -- code-block k of those of the row
-pub record IsOfPart (s : ComponentFrame) (w : Strip) (n j : ℕ) : Type 0 where
-  pub block : j < block_number (grid_in s w n)
-  pub row : (grid_in s w n).row + j / (grid_in s w n).across ≡ number_of_row s w
-
 pub of_part : (s : ComponentFrame) (w : Strip) (n k : ℕ) (grid : BlockGrid) → grid ≡ grid_in s w n → grid.row ≤ w.area.y0 / 2 ^ grid.height → w.area.y0 / 2 ^ grid.height < grid.row + grid.down → k < grid.across
     → IsOfPart s w n ((w.area.y0 / 2 ^ grid.height - grid.row) * grid.across + k)
 of_part s w n k grid e from to lt =
@@ -367,17 +364,16 @@ pub part_fits : (s : ComponentFrame) (w : Strip) (n j : ℕ) (grid : BlockGrid) 
 part_fits s w n j grid place k o frame e ep ek eo at =
     subst IsBlockShape (sym (part_shape s w n j grid place k o frame e ep ek eo)) (block_is_shape s.rect s.coding w.resolution n w.band j frame.coding at.block)
 
+-- what is coded of it
+pub part_block : (s : ComponentFrame) (w : Strip) (n j : ℕ) (grid : BlockGrid) (place : Rect) (c : Coding) (o : Orientation) (shape : BlockShape) (values : List ℤ) → IsFrame s → grid ≡ grid_in s w n → place ≡ block_area grid j → c ≡ s.coding → o ≡ orientation_at w.resolution w.band
+    → shape ≡ shape_of_area place o c.style → values ≡ raster place (plane_at w.area w.values.now) → layered s.layers (coded shape values) ≡ layered_at s (row_values w) w.resolution n w.band j
+part_block s w n j grid place c o shape values frame e ep ec eo es ev =
+    ap (λ (x : BlockShape). layered s.layers (coded x values)) (es ∙ part_shape s w n j grid place c o frame e ep ec eo)
+    ∙ ap (λ (l : List ℤ). layered s.layers (coded (block_shape s.rect s.coding w.resolution n w.band j) l)) (ev ∙ ap (λ (b : Rect). raster b (plane_at w.area w.values.now)) (place_given s w n j grid place e ep))
+
 -- what is put behind
-pub part_more : (s : ComponentFrame) (w : Strip) (n first k layers : ℕ) (grid : BlockGrid) (place : Rect) (c : Coding) (o : Orientation) (block : Coded) (item : Layered) (front old new : List Layered) → IsFrame s → grid ≡ grid_in s w n → place ≡ block_area grid (first + k) → c ≡ s.coding
-    → o ≡ orientation_at w.resolution w.band → block ≡ coded (shape_of_area place o c.style) (raster place (plane_at w.area w.values.now)) → layers ≡ s.layers → item ≡ layered layers block
-    → old ≡ front ++ map (layered_at s (λ _. plane_at w.area w.values.now) w.resolution n w.band) (range_with_len first k) → new ≡ old ++ item ∷ []
-    → new ≡ front ++ map (layered_at s (λ _. plane_at w.area w.values.now) w.resolution n w.band) (range_with_len first (k + 1))
-part_more s w n first k layers grid place c o block item front old new frame e ep ec eo eb el ei was is =
-    let d = layered_at s (λ _. plane_at w.area w.values.now) w.resolution n w.band in
-    let own : item ≡ d (first + k) =
-    ei ∙ ap (λ m. layered m block) el
-    ∙ ap (layered s.layers) (eb ∙ ap (λ (b : BlockShape). coded b (raster place (plane_at w.area w.values.now))) (part_shape s w n (first + k) grid place c o frame e ep ec eo)
-    ∙ ap (λ (b : Rect). coded (block_shape s.rect s.coding w.resolution n w.band (first + k)) (raster b (plane_at w.area w.values.now))) (place_given s w n (first + k) grid place e ep)) in
+pub part_more : (d : ℕ → Layered) (first k : ℕ) (item : Layered) (front old new : List Layered) → item ≡ d (first + k) → old ≡ front ++ map d (range_with_len first k) → new ≡ old ++ item ∷ [] → new ≡ front ++ map d (range_with_len first (k + 1))
+part_more d first k item front old new own was is =
     is ∙ ap (λ (l : List Layered). l ++ item ∷ []) was ∙ ap (λ (x : Layered). (front ++ map d (range_with_len first k)) ++ x ∷ []) own ∙ append_assoc front (map d (range_with_len first k)) (d (first + k) ∷ [])
     ∙ ap (λ (l : List Layered). front ++ l) (sym (map-range_with_len_more d first k (first + k) refl))
 
@@ -392,6 +388,23 @@ part_all s w f n k grid is e from to ek =
     ap (λ m. map d (range_with_len ((w.area.y0 / 2 ^ grid.height - grid.row) * grid.across) m)) ek
     ∙ ap (λ (x : BlockGrid). map d (range_with_len ((w.area.y0 / 2 ^ x.height - x.row) * x.across) x.across)) e
     ∙ ap (λ m. map d (range_with_len ((m - g.row) * g.across) g.across)) q ∙ sym (row_between s w f n is (omega (arith, low, q)) (omega (arith, high, q)))
+
+-- those of a precinct
+few_first : (row down across q : ℕ) → row ≤ q → q < row + down → across ≤ 2 ^ 13 → down ≤ 2 ^ 13 → (q - row) * across + across < 2 ^ 32
+few_first row down across q from to wide high =
+    let last : (q - row + 1) * across ≤ (q - row + 1) * 2 ^ 13 = mul-le-mul_left (q - row + 1) wide in
+    let one : (q - row + 1) * across ≡ (q - row) * across + across = omega arith in
+    omega (arith, last, one, from, to, high)
+
+pub row_part_is : (s : ComponentFrame) (w : Strip) (p : RowPart) → IsWholeRow s w → p.grid ≡ grid_in s w p.precinct → IsGrid p.grid → p.grid.across ≤ 2 ^ 13 → p.grid.down ≤ 2 ^ 13 → p.grid.row ≤ w.area.y0 / 2 ^ p.grid.height → w.area.y0 / 2 ^ p.grid.height < p.grid.row + p.grid.down
+    → p.first ≡ (w.area.y0 / 2 ^ p.grid.height - p.grid.row) * p.grid.across → IsRowPart s w p
+row_part_is s w p is e sound wide high from to first = record {
+  grid = e;
+  sound = sound;
+  few = (let few = few_first p.grid.row p.grid.down p.grid.across (w.area.y0 / 2 ^ p.grid.height) from to wide high in omega (arith, few, first));
+  each = λ k lt. subst (λ m. IsOfPart s w p.precinct (m + k)) (sym first) (of_part s w p.precinct k p.grid e from to lt);
+  all = ap (λ m. map (layered_at s (row_values w) w.resolution p.precinct w.band) (range_with_len m p.grid.across)) first ∙ part_all s w (row_values w) p.precinct p.grid.across p.grid is e from to refl;
+}
 
 -- ---- all precincts
 

@@ -1,6 +1,6 @@
 -- A sub-band between its rows: a row more waits, and a row of code-blocks is coded.
 use Rattle.std.proofs.Common.{◌≡◌, ℕ, zero, suc, ◌+◌, ◌-◌, ◌*◌, ◌/◌, ◌%◌, ◌^◌, ◌<◌, ◌≤◌, ◌⊎◌, inl, inr, min, max, true, false, leb, List, [], ◌∷◌, ◌++◌, length, map, take, drop, replicate, All, get_or, ℤ, pos, unsigned_abs, refl, sym, ap, subst, ◌∙◌, arith, length-drop}
-use Rattle.std.specs.List.{range_with_len}
+use Rattle.std.specs.List.{range_with_len, remove}
 use Rattle.std.proofs.Math.Nat.{mul-le-mul_right}
 use Rattle.std.proofs.Math.Pow.{pow_mono}
 use Rattle.std.specs.Prelude.{◌||◌, nat_eq}
@@ -8,7 +8,7 @@ use Rattle.std.specs.Global.{Vec}
 use Rattle.std.proofs.lemmas.Bool.{cases_lt, or_cases, or_parts, leb-true, leb-false, eqb-true, eqb-false}
 use Rattle.std.proofs.lemmas.Nat.{pow_pos, div-add-mod'}
 use Rattle.std.proofs.lemmas.List.{get_or_past, length-map, length-append, length-replicate, length-take-le}
-use Rattle.std.proofs.lemmas.List.Elements.{All-nil, All-append, All-weaker, All-from_get_or, All-take, All-drop}
+use Rattle.std.proofs.lemmas.List.Elements.{All-nil, All-push, All-head, All-tail, All-append, All-weaker, All-from_get_or, All-take, All-drop}
 use Rattle.jk_math.specs.declared.rect.Rect.{Rect}
 use Rattle.jk_math.specs.BitLength.{bit_length}
 use Rattle.jk_math.specs.Lists.{lists_of, list_at}
@@ -27,11 +27,12 @@ use Rattle.jk_walk.specs.TilePackets.{orientations, band_number}
 use Rattle.jk_tile.specs.TileBlocks.{orientation_at, grid_at}
 use Rattle.jk_tile.specs.decoding.Strips.{block_exponent}
 use Rattle.jk_tile.specs.encoding.Layered.{Layered}
-use Rattle.jk_tile.specs.encoding.Strips.{ComponentFrame, band_at, IsRowStart, row_end, IsWholeRow, blocks_above, layered_at, layered_between, HavePlanes, own_band, HoldsRows, IsBetweenRows, HasRowsOf}
-use Rattle.jk_tile.specs.declared.encoding.strips.Strip.{Strip}
+use Rattle.jk_tile.specs.encoding.Strips.{ComponentFrame, band_at, IsRowStart, row_end, IsRowOf, IsWholeRow, IsWaitingRow, AreWaiting, HaveValues, blocks_above, layered_at, layered_between, HavePlanes, own_band, HoldsRows, IsBetweenRows, HasRowsOf}
+use Rattle.jk_tile.specs.declared.encoding.row_coding.Strip.{Strip}
+use Rattle.jk_tile.specs.declared.encoding.strips.WaitingRow.{WaitingRow}
 use Rattle.jk_tile.specs.declared.encoding.strips.BandStrips.{BandStrips}
 use Rattle.jk_tile.proofs.encoding.BlockRows.{none_above}
-use Rattle.jk_tile.proofs.encoding.StripBlocks.{grid_in, between_agrees, above_more, between_few}
+use Rattle.jk_tile.proofs.encoding.StripBlocks.{between_agrees, above_more, between_few}
 
 -- ---- where rows of code-blocks end
 
@@ -149,137 +150,203 @@ bits_more band y bits tops f row from was top is =
 pub none_wait : (a : Rect) (f : ℕ → ℕ → ℤ) → a.y1 ≤ a.y0 → raster a f ≡ []
 none_wait a f h = no_rows a a.y0 a.y1 f h
 
--- ---- a row of code-blocks is coded
+-- ---- a row of code-blocks waits
 
--- the row of code-blocks whose rows wait
-pub record IsWhole (s : ComponentFrame) (b : BandStrips) (w : Strip) : Type 0 where
-  pub resolution : w.resolution ≡ b.resolution
-  pub band : w.band ≡ b.band
-  pub area : w.area ≡ b.area
-  pub values : w.values.now ≡ b.strip.items
-  pub some : b.area.y0 < b.area.y1
-  pub whole : b.area.y1 ≡ row_end (own_band s b) (block_exponent s.coding b.resolution) b.area.y0
+-- the rows that wait, where none of a row of code-blocks is missing
+pub whole_row : (s : ComponentFrame) (b : BandStrips) → HoldsRows s b → b.area.y0 < b.area.y1 → b.area.y1 ≡ row_end (own_band s b) (block_exponent s.coding b.resolution) b.area.y0 → IsRowOf s b.resolution b.band b.area b.strip.items
+whole_row s b holds some whole = record {
+  resolution = holds.resolution;
+  band = holds.band;
+  left = holds.left;
+  right = holds.right;
+  upper = holds.upper;
+  inside = (let lower = holds.lower in omega (arith, some, lower));
+  start = holds.start;
+  end = whole;
+  area_is = (let bounds = holds.bounds in let l = bounds.left in let r = bounds.right in let d = bounds.lower in let hl = holds.left in let hr = holds.right in let order = holds.order in let lower = holds.lower in
+      record { left = omega (arith, l, hl, hr); upper = order; right = omega (arith, r, hr); lower = omega (arith, d, lower) });
+  long = holds.long;
+  small = below_more b.bits 23 b.strip.items holds.few holds.below;
+}
 
-pub is_strip : (s : ComponentFrame) (b : BandStrips) (w : Strip) → HoldsRows s b → IsWhole s b w → IsWholeRow s w
-is_strip s b w holds is =
-    let some = is.some in let lower = holds.lower in
-    let few = holds.few in
-    record {
-      resolution = subst (λ n. n ≤ s.coding.levels) (sym is.resolution) holds.resolution;
-      band = subst (λ n. w.band < length (orientations n)) (sym is.resolution) (subst (λ n. n < length (orientations b.resolution)) (sym is.band) holds.band);
-      left = ap (λ (a : Rect). a.x0) is.area ∙ holds.left ∙ ap (λ (a : Rect). a.x0) own;
-      right = ap (λ (a : Rect). a.x1) is.area ∙ holds.right ∙ ap (λ (a : Rect). a.x1) own;
-      upper = (let top = ap (λ (a : Rect). a.y0) own in let first = ap (λ (a : Rect). a.y0) is.area in let upper = holds.upper in omega (arith, top, first, upper));
-      inside = (let end = ap (λ (a : Rect). a.y1) own in let first = ap (λ (a : Rect). a.y0) is.area in omega (arith, end, first, some, lower));
-      start = λ less. (let end = ap (λ (a : Rect). a.y1) own in let first = ap (λ (a : Rect). a.y0) is.area in
-          first ∙ holds.start (omega (arith, first, end, less)) ∙ sym (ap (λ y. max (own_band s b).y0 (y / 2 ^ block_exponent s.coding b.resolution * 2 ^ block_exponent s.coding b.resolution)) first)
-          ∙ ap (λ (a : Rect). max a.y0 (w.area.y0 / 2 ^ block_exponent s.coding b.resolution * 2 ^ block_exponent s.coding b.resolution)) own
-          ∙ ap (λ r. max (band_at s w.resolution w.band).y0 (w.area.y0 / 2 ^ block_exponent s.coding r * 2 ^ block_exponent s.coding r)) (sym is.resolution));
-      end = ap (λ (a : Rect). a.y1) is.area ∙ is.whole ∙ sym (ap (row_end (own_band s b) (block_exponent s.coding b.resolution)) (ap (λ (a : Rect). a.y0) is.area))
-          ∙ ap (λ (a : Rect). row_end a (block_exponent s.coding b.resolution) w.area.y0) own ∙ ap (λ r. row_end (band_at s w.resolution w.band) (block_exponent s.coding r) w.area.y0) (sym is.resolution);
-      area_is = subst IsArea (sym is.area) (let bounds = holds.bounds in let l = bounds.left in let r = bounds.right in let d = bounds.lower in let hl = holds.left in let hr = holds.right in let order = holds.order in
-          record { left = omega (arith, l, hl, hr); upper = order; right = omega (arith, r, hr); lower = omega (arith, d, lower) });
-      long = ap (λ (l : List ℤ). length l) is.values ∙ holds.long ∙ ap (λ (a : Rect). places_of a) (sym is.area);
-      small = subst (All (λ v. unsigned_abs v < 2 ^ 23)) (sym is.values) (below_more b.bits 23 b.strip.items few holds.below);
-    }
-  where
-    own : own_band s b ≡ band_at s w.resolution w.band
-    own = sym (ap (λ r. band_at s r w.band) is.resolution ∙ ap (band_at s b.resolution) is.band)
+-- one waits behind the others
+pub waiting_more : (s : ComponentFrame) (r i bits p q : ℕ) (ws : List WaitingRow) (w : WaitingRow) → AreWaiting s r i bits p q ws → w.area.y0 ≡ q → IsWaitingRow s r i bits w → AreWaiting s r i bits p w.area.y1 (ws ++ w ∷ [])
+waiting_more s r i bits p q [] w same at is = (at ∙ sym same, is, refl)
+waiting_more s r i bits p q (x ∷ ws) w all at is = (all.0, all.1, waiting_more s r i bits x.area.y1 q ws w all.2 at is)
+
+-- they have more bits too
+pub waiting_below : (s : ComponentFrame) (r i m n p q : ℕ) (ws : List WaitingRow) → m ≤ n → AreWaiting s r i m p q ws → AreWaiting s r i n p q ws
+waiting_below s r i m n p q [] le same = same
+waiting_below s r i m n p q (x ∷ ws) le all = (
+  all.0,
+  record { row = all.1.row; below = below_more m n x.values.items le all.1.below },
+  waiting_below s r i m n x.area.y1 q ws le all.2,
+)
+
+-- each of them
+pub waiting_at : (s : ComponentFrame) (r i bits p q : ℕ) (ws : List WaitingRow) (k : ℕ) (other : WaitingRow) → k < length ws → AreWaiting s r i bits p q ws → IsWaitingRow s r i bits (get_or ws k other)
+waiting_at s r i bits p q [] k other lt all = absurd (omega (arith, lt))
+waiting_at s r i bits p q (x ∷ ws) zero other lt all = all.1
+waiting_at s r i bits p q (x ∷ ws) (suc k) other lt all = waiting_at s r i bits x.area.y1 q ws k other (omega (arith, lt)) all.2
+
+-- none of them
+pub waiting_none : (s : ComponentFrame) (r i bits p q : ℕ) (ws : List WaitingRow) → length ws ≡ 0 → AreWaiting s r i bits p q ws → p ≡ q
+waiting_none s r i bits p q [] none same = same
+waiting_none s r i bits p q (x ∷ ws) none all = absurd (omega (arith, none))
 
 -- what becomes of the sub-band
-pub record IsCodedOn (s : ComponentFrame) (w : Strip) (b new : BandStrips) : Type 0 where
-  pub resolution : new.resolution ≡ b.resolution
-  pub band : new.band ≡ b.band
-  pub area : new.area ≡ record { x0 = b.area.x0; y0 = b.area.y1; x1 = b.area.x1; y1 = b.area.y1 }
-  pub bits : new.bits ≡ b.bits
-  pub strip : new.strip.items ≡ []
-  pub count : length new.blocks.items ≡ length b.blocks.items
-  pub blocks : (n : ℕ) → n < precinct_number s.rect s.coding w.resolution → list_at new.blocks.items n
-      ≡ list_at b.blocks.items n ++ layered_between s (λ _. plane_at w.area w.values.now) w.resolution n w.band w.area.y0 w.area.y1
+abbrev pub waiting_on : BandStrips → Vec WaitingRow → Vec ℤ → BandStrips
+waiting_on b waiting strip = record {
+  resolution = b.resolution;
+  band = b.band;
+  top = b.top;
+  waiting = waiting;
+  area = record { x0 = b.area.x0; y0 = b.area.y1; x1 = b.area.x1; y1 = b.area.y1 };
+  strip = strip;
+  blocks = b.blocks;
+  bits = b.bits;
+}
 
-pub coded_holds : (s : ComponentFrame) (b new : BandStrips) (w : Strip) → HoldsRows s b → IsWhole s b w → IsCodedOn s w b new → IsBetweenRows s new
-coded_holds s b new w holds is on = (
+pub waits_holds : (s : ComponentFrame) (b : BandStrips) (values strip : Vec ℤ) (waiting : Vec WaitingRow) → HoldsRows s b → b.area.y0 < b.area.y1 → b.area.y1 ≡ row_end (own_band s b) (block_exponent s.coding b.resolution) b.area.y0 → values.items ≡ b.strip.items
+    → waiting.items ≡ b.waiting.items ++ record { area = b.area; values = values } ∷ [] → strip.items ≡ [] → IsBetweenRows s (waiting_on b waiting strip)
+waits_holds s b values strip waiting holds some whole ev ew es = (
   record {
-    resolution = subst (λ n. n ≤ s.coding.levels) (sym on.resolution) holds.resolution;
-    band = subst (λ n. new.band < length (orientations n)) (sym on.resolution) (subst (λ n. n < length (orientations b.resolution)) (sym on.band) holds.band);
-    bounds = subst IsArea own holds.bounds;
-    left = ap (λ (a : Rect). a.x0) on.area ∙ holds.left ∙ ap (λ (a : Rect). a.x0) own;
-    right = ap (λ (a : Rect). a.x1) on.area ∙ holds.right ∙ ap (λ (a : Rect). a.x1) own;
-    upper = (let e = ap (λ (a : Rect). a.y0) own in let upper = holds.upper in omega (arith, e, upper, first, some));
-    order = omega (arith, first, last);
-    lower = (let e = ap (λ (a : Rect). a.y1) own in let lower = holds.lower in omega (arith, e, lower, last));
-    start = λ less. (let e = ap (λ (a : Rect). a.y1) own in
-        let from = next_start (own_band s b) (block_exponent s.coding b.resolution) b.area.y0 holds.upper (let lower = holds.lower in omega (arith, some, lower)) in
-        let at : b.area.y1 < (own_band s b).y1 = omega (arith, less, e, first) in
-        first ∙ is.whole ∙ from (subst (λ y. y < (own_band s b).y1) is.whole at)
-        ∙ ap (λ y. max (own_band s b).y0 (y / 2 ^ block_exponent s.coding b.resolution * 2 ^ block_exponent s.coding b.resolution)) (sym is.whole ∙ sym first)
-        ∙ ap (λ (a : Rect). max a.y0 (new.area.y0 / 2 ^ block_exponent s.coding b.resolution * 2 ^ block_exponent s.coding b.resolution)) own
-        ∙ ap (λ r. max (own_band s new).y0 (new.area.y0 / 2 ^ block_exponent s.coding r * 2 ^ block_exponent s.coding r)) (sym on.resolution));
-    within = λ some_row. absurd (omega (arith, some_row, first, last));
-    long = ap (λ (l : List ℤ). length l) on.strip ∙ (let rows : new.area.y1 - new.area.y0 ≡ 0 = omega (arith, first, last) in (let z : 0 ≡ 0 * columns_of new.area = omega arith in z) ∙ ap (λ n. n * columns_of new.area) (sym rows));
-    few = subst (λ n. n ≤ 23) (sym on.bits) holds.few;
-    below = subst (All (λ v. unsigned_abs v < 2 ^ new.bits)) (sym on.strip) (All-nil (λ v. unsigned_abs v < 2 ^ new.bits));
-    count = on.count ∙ holds.count ∙ ap (precinct_number s.rect s.coding) (sym on.resolution);
-    planes = subst (λ n. HavePlanes n (lists_of new.blocks.items)) (sym on.bits) few_planes;
+    resolution = holds.resolution;
+    band = holds.band;
+    bounds = holds.bounds;
+    left = holds.left;
+    right = holds.right;
+    upper = (let upper = holds.upper in omega (arith, upper, some));
+    order = omega arith;
+    lower = holds.lower;
+    start = subst (IsRowStart (own_band s b) (block_exponent s.coding b.resolution)) (sym whole)
+        (next_start (own_band s b) (block_exponent s.coding b.resolution) b.area.y0 holds.upper (let lower = holds.lower in omega (arith, some, lower)));
+    within = λ more. absurd (omega (arith, more));
+    long = ap (λ (l : List ℤ). length l) es ∙ (let rows : b.area.y1 - b.area.y1 ≡ 0 = omega arith in (let z : 0 ≡ 0 * columns_of b.area = omega arith in z) ∙ ap (λ n. n * columns_of b.area) (sym rows));
+    few = holds.few;
+    below = subst (All (λ v. unsigned_abs v < 2 ^ b.bits)) (sym es) (All-nil (λ v. unsigned_abs v < 2 ^ b.bits));
+    count = holds.count;
+    planes = holds.planes;
+    waiting = subst (AreWaiting s b.resolution b.band b.bits b.top b.area.y1) (sym ew)
+        (waiting_more s b.resolution b.band b.bits b.top b.area.y0 b.waiting.items (record { area = b.area; values = values }) holds.waiting refl (record {
+          row = subst (IsRowOf s b.resolution b.band b.area) (sym ev) (whole_row s b holds some whole);
+          below = subst (All (λ v. unsigned_abs v < 2 ^ b.bits)) (sym ev) holds.below;
+        }));
   },
-  λ some_row. absurd (omega (arith, some_row, first, last)),
+  λ more. absurd (omega (arith, more)),
+)
+
+pub waits_rows : (s : ComponentFrame) (f : ℕ → ℕ → ℕ → ℤ) (b : BandStrips) (values strip : Vec ℤ) (waiting : Vec WaitingRow) → values.items ≡ b.strip.items → waiting.items ≡ b.waiting.items ++ record { area = b.area; values = values } ∷ [] → strip.items ≡ []
+    → HasRowsOf s f b → HasRowsOf s f (waiting_on b waiting strip)
+waits_rows s f b values strip waiting ev ew es has =
+    let g = f (band_number b.resolution b.band) in
+    record {
+      blocks = has.blocks;
+      waiting = subst (HaveValues g) (sym ew) (All-push (λ (w : WaitingRow). w.values.items ≡ raster w.area g) b.waiting.items (record { area = b.area; values = values }) has.waiting (ev ∙ has.strip));
+      strip = es ∙ sym (none_wait (record { x0 = b.area.x0; y0 = b.area.y1; x1 = b.area.x1; y1 = b.area.y1 }) g (omega arith));
+      bits = has.bits;
+    }
+
+-- ---- a row of code-blocks is coded
+
+-- the first of those that wait
+pub first_removed : (ws rest : List WaitingRow) (w : WaitingRow) → 0 < length ws → w ≡ get_or ws 0 w → rest ≡ remove ws 0 → ws ≡ w ∷ rest
+first_removed [] rest w some is left = absurd (omega (arith, some))
+first_removed (x ∷ ws) rest w some is left = ap (λ y. y ∷ ws) (sym is) ∙ ap (λ l. w ∷ l) (sym left)
+
+-- a row with these coefficients as it is coded
+abbrev pub strip_of : (r i : ℕ) → Rect → List ℤ → Strip
+strip_of r i a values = record { resolution = r; band = i; area = a; values = record { ref_ptr = (0, 0); now = values } }
+
+-- what becomes of the sub-band
+abbrev pub coded_on : BandStrips → WaitingRow → Vec WaitingRow → Vec ℤ → Vec (Vec Layered) → BandStrips
+coded_on b w rest strip blocks = record {
+  resolution = b.resolution;
+  band = b.band;
+  top = w.area.y1;
+  waiting = rest;
+  area = b.area;
+  strip = strip;
+  blocks = blocks;
+  bits = b.bits;
+}
+
+-- which row it is, and what is coded
+pub record IsFirstCoded (s : ComponentFrame) (b : BandStrips) (w : WaitingRow) (rest : List WaitingRow) (values strip : List ℤ) (blocks : List (Vec Layered)) : Type 0 where
+  pub waiting : b.waiting.items ≡ w ∷ rest
+  pub values_are : values ≡ w.values.items
+  pub strip_is : strip ≡ b.strip.items
+  pub count : length blocks ≡ length b.blocks.items
+  pub blocks_are : (n : ℕ) → n < precinct_number s.rect s.coding b.resolution → list_at blocks n
+      ≡ list_at b.blocks.items n ++ layered_between s (λ _. plane_at w.area values) b.resolution n b.band w.area.y0 w.area.y1
+
+first_waiting : (s : ComponentFrame) (b : BandStrips) (w : WaitingRow) (rest : List WaitingRow) (values strip : List ℤ) (blocks : List (Vec Layered)) → HoldsRows s b → IsFirstCoded s b w rest values strip blocks → AreWaiting s b.resolution b.band b.bits b.top b.area.y0 (w ∷ rest)
+first_waiting s b w rest values strip blocks holds is = subst (AreWaiting s b.resolution b.band b.bits b.top b.area.y0) is.waiting holds.waiting
+
+-- the row that is coded is whole
+pub first_whole : (s : ComponentFrame) (b : BandStrips) (w : WaitingRow) (rest : List WaitingRow) (values : List ℤ) → HoldsRows s b → b.waiting.items ≡ w ∷ rest → values ≡ w.values.items → IsRowOf s b.resolution b.band w.area values
+first_whole s b w rest values holds ew ev = subst (IsRowOf s b.resolution b.band w.area) (sym ev) (subst (AreWaiting s b.resolution b.band b.bits b.top b.area.y0) ew holds.waiting).1.row
+
+pub coded_holds : (s : ComponentFrame) (b : BandStrips) (w : WaitingRow) (rest : Vec WaitingRow) (values : List ℤ) (strip : Vec ℤ) (blocks : Vec (Vec Layered)) → IsBetweenRows s b → IsFirstCoded s b w rest.items values strip.items blocks.items → IsBetweenRows s (coded_on b w rest strip blocks)
+coded_holds s b w rest values strip blocks (holds, missing) is = (
+  record {
+    resolution = holds.resolution;
+    band = holds.band;
+    bounds = holds.bounds;
+    left = holds.left;
+    right = holds.right;
+    upper = holds.upper;
+    order = holds.order;
+    lower = holds.lower;
+    start = holds.start;
+    within = holds.within;
+    long = ap (λ (l : List ℤ). length l) is.strip_is ∙ holds.long;
+    few = holds.few;
+    below = subst (All (λ v. unsigned_abs v < 2 ^ b.bits)) (sym is.strip_is) holds.below;
+    count = is.count ∙ holds.count;
+    planes = few_planes;
+    waiting = (first_waiting s b w rest.items values strip.items blocks.items holds is).2;
+  },
+  missing,
 )
   where
-    own : own_band s b ≡ own_band s new
-    own = sym (ap (λ r. band_at s r new.band) on.resolution ∙ ap (band_at s b.resolution) on.band)
+    x : Strip
+    x = strip_of b.resolution b.band w.area values
 
-    first : new.area.y0 ≡ b.area.y1
-    first = ap (λ (a : Rect). a.y0) on.area
+    whole : IsWholeRow s x
+    whole = first_whole s b w rest.items values holds is.waiting is.values_are
 
-    last : new.area.y1 ≡ b.area.y1
-    last = ap (λ (a : Rect). a.y1) on.area
-
-    some : b.area.y0 < b.area.y1
-    some = is.some
-
-    strip : IsWholeRow s w
-    strip = is_strip s b w holds is
-
-    few_planes : HavePlanes b.bits (lists_of new.blocks.items)
-    few_planes n = elim (cases_lt n (precinct_number s.rect s.coding w.resolution)) [
-      | inl less ↦ subst (All (λ (k : Layered). k.planes ≤ b.bits)) (sym (on.blocks n less))
-          (All-append (λ (k : Layered). k.planes ≤ b.bits) (list_at b.blocks.items n) (layered_between s (λ _. plane_at w.area w.values.now) w.resolution n w.band w.area.y0 w.area.y1) (holds.planes n)
-          (between_few s w n b.bits strip (subst (All (λ v. unsigned_abs v < 2 ^ b.bits)) (sym is.values) holds.below)))
-      | inr past ↦ subst (All (λ (k : Layered). k.planes ≤ b.bits)) (sym (get_or_past (lists_of new.blocks.items) n [] (let long = length-map new.blocks.items (λ v. v.items) in let a = on.count in let c = holds.count in
-          let e = ap (precinct_number s.rect s.coding) is.resolution in omega (arith, past, long, a, c, e)))) (All-nil (λ (k : Layered). k.planes ≤ b.bits))
+    few_planes : HavePlanes b.bits (lists_of blocks.items)
+    few_planes n = elim (cases_lt n (precinct_number s.rect s.coding b.resolution)) [
+      | inl less ↦ subst (All (λ (k : Layered). k.planes ≤ b.bits)) (sym (is.blocks_are n less))
+          (All-append (λ (k : Layered). k.planes ≤ b.bits) (list_at b.blocks.items n) (layered_between s (λ _. plane_at w.area values) b.resolution n b.band w.area.y0 w.area.y1) (holds.planes n)
+          (between_few s x n b.bits whole (subst (All (λ v. unsigned_abs v < 2 ^ b.bits)) (sym is.values_are) (first_waiting s b w rest.items values strip.items blocks.items holds is).1.below)))
+      | inr past ↦ subst (All (λ (k : Layered). k.planes ≤ b.bits)) (sym (get_or_past (lists_of blocks.items) n [] (let long = length-map blocks.items (λ v. v.items) in let a = is.count in let c = holds.count in omega (arith, past, long, a, c)))) (All-nil (λ (k : Layered). k.planes ≤ b.bits))
     ]
 
-pub coded_rows : (s : ComponentFrame) (f : ℕ → ℕ → ℕ → ℤ) (b new : BandStrips) (w : Strip) → HoldsRows s b → IsWhole s b w → IsCodedOn s w b new → HasRowsOf s f b → HasRowsOf s f new
-coded_rows s f b new w holds is on has = record {
-  blocks = λ n lt. (let here : n < precinct_number s.rect s.coding w.resolution = subst (λ r. n < precinct_number s.rect s.coding r) (on.resolution ∙ sym is.resolution) lt in
-      subst (λ (l : List Layered). list_at new.blocks.items n ≡ l) (same n)
-      (above_more s w f n (list_at b.blocks.items n) (list_at new.blocks.items n) strip (was n here) (on.blocks n here ∙ ap (λ (l : List Layered). list_at b.blocks.items n ++ l) (between_agrees s w f n strip values))));
-  strip = on.strip ∙ sym (none_wait new.area (f (band_number new.resolution new.band)) (let first = ap (λ (a : Rect). a.y0) on.area in let last = ap (λ (a : Rect). a.y1) on.area in omega (arith, first, last)));
-  bits = on.bits ∙ has.bits ∙ ap (λ y. bit_length (greatest (raster (rows_between (own_band s b) (own_band s b).y0 y) (f (band_number b.resolution b.band))))) (sym (ap (λ (a : Rect). a.y1) on.area))
-      ∙ ap (λ r. bit_length (greatest (raster (rows_between (band_at s r b.band) (band_at s r b.band).y0 new.area.y1) (f (band_number r b.band))))) (sym on.resolution)
-      ∙ ap (λ i. bit_length (greatest (raster (rows_between (band_at s new.resolution i) (band_at s new.resolution i).y0 new.area.y1) (f (band_number new.resolution i))))) (sym on.band);
+pub coded_rows : (s : ComponentFrame) (f : ℕ → ℕ → ℕ → ℤ) (b : BandStrips) (w : WaitingRow) (rest : Vec WaitingRow) (values : List ℤ) (strip : Vec ℤ) (blocks : Vec (Vec Layered)) → HoldsRows s b → IsFirstCoded s b w rest.items values strip.items blocks.items → HasRowsOf s f b
+    → HasRowsOf s f (coded_on b w rest strip blocks)
+coded_rows s f b w rest values strip blocks holds is has = record {
+  blocks = λ n lt.
+      above_more s x f n (list_at b.blocks.items n) (list_at blocks.items n) whole
+      (has.blocks n lt ∙ ap (λ y. map (layered_at s f b.resolution n b.band) (range_with_len 0 (blocks_above (grid_at s.rect s.coding b.resolution n b.band) y))) (sym (first_waiting s b w rest.items values strip.items blocks.items holds is).0))
+      (is.blocks_are n lt ∙ ap (λ (l : List Layered). list_at b.blocks.items n ++ l) (between_agrees s x f n whole own));
+  waiting = All-tail (λ (y : WaitingRow). y.values.items ≡ raster y.area g) w rest.items (subst (HaveValues g) is.waiting has.waiting);
+  strip = is.strip_is ∙ has.strip;
+  bits = has.bits;
 }
   where
-    strip : IsWholeRow s w
-    strip = is_strip s b w holds is
+    g : ℕ → ℕ → ℤ
+    g = f (band_number b.resolution b.band)
 
-    values : w.values.now ≡ raster w.area (f (band_number w.resolution w.band))
-    values = is.values ∙ has.strip ∙ ap (λ (a : Rect). raster a (f (band_number b.resolution b.band))) (sym is.area)
-        ∙ ap (λ r. raster w.area (f (band_number r b.band))) (sym is.resolution) ∙ ap (λ i. raster w.area (f (band_number w.resolution i))) (sym is.band)
+    x : Strip
+    x = strip_of b.resolution b.band w.area values
 
-    was : (n : ℕ) → n < precinct_number s.rect s.coding w.resolution
-        → list_at b.blocks.items n ≡ map (layered_at s f w.resolution n w.band) (range_with_len 0 (blocks_above (grid_in s w n) w.area.y0))
-    was n lt =
-        has.blocks n (subst (λ r. n < precinct_number s.rect s.coding r) is.resolution lt)
-        ∙ ap (λ y. map (layered_at s f b.resolution n b.band) (range_with_len 0 (blocks_above (grid_at s.rect s.coding b.resolution n b.band) y))) (sym (ap (λ (a : Rect). a.y0) is.area))
-        ∙ ap (λ r. map (layered_at s f r n b.band) (range_with_len 0 (blocks_above (grid_at s.rect s.coding r n b.band) w.area.y0))) (sym is.resolution)
-        ∙ ap (λ i. map (layered_at s f w.resolution n i) (range_with_len 0 (blocks_above (grid_at s.rect s.coding w.resolution n i) w.area.y0))) (sym is.band)
+    whole : IsWholeRow s x
+    whole = first_whole s b w rest.items values holds is.waiting is.values_are
 
-    same : (n : ℕ) → map (layered_at s f w.resolution n w.band) (range_with_len 0 (blocks_above (grid_in s w n) w.area.y1)) ≡ map (layered_at s f new.resolution n new.band) (range_with_len 0 (blocks_above (grid_at s.rect s.coding new.resolution n new.band) new.area.y0))
-    same n =
-        ap (λ y. map (layered_at s f w.resolution n w.band) (range_with_len 0 (blocks_above (grid_in s w n) y))) (ap (λ (a : Rect). a.y1) is.area ∙ sym (ap (λ (a : Rect). a.y0) on.area))
-        ∙ ap (λ r. map (layered_at s f r n w.band) (range_with_len 0 (blocks_above (grid_at s.rect s.coding r n w.band) new.area.y0))) (is.resolution ∙ sym on.resolution)
-        ∙ ap (λ i. map (layered_at s f new.resolution n i) (range_with_len 0 (blocks_above (grid_at s.rect s.coding new.resolution n i) new.area.y0))) (is.band ∙ sym on.band)
+    own : values ≡ raster w.area g
+    own = is.values_are ∙ All-head (λ (y : WaitingRow). y.values.items ≡ raster y.area g) w rest.items (subst (HaveValues g) is.waiting has.waiting)
 
 -- ---- one row more
 
@@ -301,6 +368,8 @@ pub record IsLonger (b mid : BandStrips) (row : List ℤ) (tops : ℕ) : Type 0 
   pub bits : mid.bits ≡ max b.bits tops
   pub strip : mid.strip.items ≡ b.strip.items ++ row
   pub blocks : mid.blocks.items ≡ b.blocks.items
+  pub top : mid.top ≡ b.top
+  pub waiting : mid.waiting.items ≡ b.waiting.items
 
 pub longer_holds : (s : ComponentFrame) (b mid : BandStrips) (row : List ℤ) (tops : ℕ) → IsBetweenRows s b → b.area.y1 < (own_band s b).y1 → length row ≡ columns_of b.area → tops ≡ bit_length (greatest row) → tops ≤ 23
     → IsLonger b mid row tops → HoldsRows s mid
@@ -330,6 +399,12 @@ longer_holds s b mid row tops (holds, missing) inside long top few is = record {
       (below_more tops mid.bits row (let e = is.bits in omega (arith, e)) (subst (λ n. All (λ v. unsigned_abs v < 2 ^ n) row) (sym top) (below_own row))));
   count = ap (λ (l : List (Vec Layered)). length l) is.blocks ∙ holds.count ∙ ap (precinct_number s.rect s.coding) (sym is.resolution);
   planes = subst (λ (l : List (Vec Layered)). HavePlanes mid.bits (lists_of l)) (sym is.blocks) (planes_more b.bits mid.bits (lists_of b.blocks.items) (let e = is.bits in omega (arith, e)) holds.planes);
+  waiting = subst (AreWaiting s mid.resolution mid.band mid.bits mid.top mid.area.y0) (sym is.waiting)
+      (subst (λ y. AreWaiting s mid.resolution mid.band mid.bits mid.top y b.waiting.items) (sym first)
+      (subst (λ y. AreWaiting s mid.resolution mid.band mid.bits y b.area.y0 b.waiting.items) (sym is.top)
+      (subst (λ r. AreWaiting s r mid.band mid.bits b.top b.area.y0 b.waiting.items) (sym is.resolution)
+      (subst (λ i. AreWaiting s b.resolution i mid.bits b.top b.area.y0 b.waiting.items) (sym is.band)
+      (waiting_below s b.resolution b.band b.bits mid.bits b.top b.area.y0 b.waiting.items (let e = is.bits in omega (arith, e)) holds.waiting)))));
 }
   where
     own : own_band s b ≡ own_band s mid
@@ -350,9 +425,11 @@ longer_rows s f b mid row tops holds top is rows has =
     record {
       blocks = λ n lt.
           ap (λ (l : List (Vec Layered)). list_at l n) is.blocks ∙ has.blocks n (subst (λ r. n < precinct_number s.rect s.coding r) is.resolution lt)
-          ∙ ap (λ y. map (layered_at s f b.resolution n b.band) (range_with_len 0 (blocks_above (grid_at s.rect s.coding b.resolution n b.band) y))) (sym (ap (λ (a : Rect). a.y0) is.area))
-          ∙ ap (λ r. map (layered_at s f r n b.band) (range_with_len 0 (blocks_above (grid_at s.rect s.coding r n b.band) mid.area.y0))) (sym is.resolution)
-          ∙ ap (λ i. map (layered_at s f mid.resolution n i) (range_with_len 0 (blocks_above (grid_at s.rect s.coding mid.resolution n i) mid.area.y0))) (sym is.band);
+          ∙ ap (λ y. map (layered_at s f b.resolution n b.band) (range_with_len 0 (blocks_above (grid_at s.rect s.coding b.resolution n b.band) y))) (sym is.top)
+          ∙ ap (λ r. map (layered_at s f r n b.band) (range_with_len 0 (blocks_above (grid_at s.rect s.coding r n b.band) mid.top))) (sym is.resolution)
+          ∙ ap (λ i. map (layered_at s f mid.resolution n i) (range_with_len 0 (blocks_above (grid_at s.rect s.coding mid.resolution n i) mid.top))) (sym is.band);
+      waiting = subst (HaveValues (f (band_number mid.resolution mid.band))) (sym is.waiting)
+          (subst (λ r. HaveValues (f (band_number r mid.band)) b.waiting.items) (sym is.resolution) (subst (λ i. HaveValues (f (band_number b.resolution i)) b.waiting.items) (sym is.band) has.waiting));
       strip = is.strip ∙ rows_more b.area mid.area band g b.strip.items row holds.left holds.right is.area holds.order has.strip rows
           ∙ ap (λ r. raster mid.area (f (band_number r b.band))) (sym is.resolution) ∙ ap (λ i. raster mid.area (f (band_number mid.resolution i))) (sym is.band);
       bits = is.bits ∙ bits_more band b.area.y1 b.bits tops g row from has.bits top rows
@@ -412,6 +489,8 @@ pub record IsFirst (s : ComponentFrame) (b : BandStrips) (area : Rect) (count : 
   pub own : area ≡ own_band s b
   pub bounds : IsArea area
   pub rows : b.area ≡ record { x0 = area.x0; y0 = area.y0; x1 = area.x1; y1 = area.y0 }
+  pub top : b.top ≡ area.y0
+  pub waiting : b.waiting.items ≡ []
   pub strip : b.strip.items ≡ []
   pub blocks : lists_of b.blocks.items ≡ replicate count []
   pub number : count ≡ precinct_number s.rect s.coding b.resolution
@@ -435,6 +514,7 @@ first_holds s b area count is = (
     below = subst (All (λ v. unsigned_abs v < 2 ^ b.bits)) (sym is.strip) (All-nil (λ v. unsigned_abs v < 2 ^ b.bits));
     count = sym (length-map b.blocks.items (λ v. v.items)) ∙ ap (λ (l : List (List Layered)). length l) is.blocks ∙ length-replicate count [] ∙ is.number;
     planes = λ n. subst (All (λ (k : Layered). k.planes ≤ b.bits)) (sym (ap (λ (l : List (List Layered)). get_or l n []) is.blocks ∙ none_at count n)) (All-nil (λ (k : Layered). k.planes ≤ b.bits));
+    waiting = subst (AreWaiting s b.resolution b.band b.bits b.top b.area.y0) (sym is.waiting) (is.top ∙ sym first);
   },
   λ some. absurd (omega (arith, some, first, last)),
 )
@@ -457,7 +537,8 @@ first_rows s f b area count is =
     let rows = rows_between (own_band s b) (own_band s b).y0 b.area.y1 in
     record {
       blocks = λ n lt. ap (λ (l : List (List Layered)). get_or l n []) is.blocks ∙ none_at count n
-          ∙ ap (λ m. map (layered_at s f b.resolution n b.band) (range_with_len 0 m)) (sym (none_above s.rect s.coding b.resolution n b.band b.area.y0 (first ∙ top)));
+          ∙ ap (λ m. map (layered_at s f b.resolution n b.band) (range_with_len 0 m)) (sym (none_above s.rect s.coding b.resolution n b.band b.top (is.top ∙ top)));
+      waiting = subst (HaveValues g) (sym is.waiting) (All-nil (λ (w : WaitingRow). w.values.items ≡ raster w.area g));
       strip = is.strip ∙ sym (none_wait b.area g (omega (arith, first, last)));
       bits = is.bits ∙ sym (bits_none (raster rows g) (ap (λ (l : List ℤ). length l) (no_rows (own_band s b) (own_band s b).y0 b.area.y1 g (omega (arith, last, top)))));
     }

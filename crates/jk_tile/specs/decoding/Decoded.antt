@@ -1,4 +1,5 @@
 -- Code-blocks that are decoded before the parts that are made of them.
+use Rattle.std.specs.Global.{Vec}
 use Rattle.std.specs.Prelude.{◌≡◌, ℕ, ◌*◌, ◌^◌, ◌≤◌, List, length, map, All, ℤ, Result, Ok, IfOk}
 use Rattle.jk_math.specs.Signed.{IsBelow}
 use Rattle.jk_math.specs.declared.fault.Fault.{Fault}
@@ -32,12 +33,15 @@ pub record IsBlockSegment (size : ℕ) (b : BlockSegment) : Type 0 where
   pub planes : b.planes ≤ 23
   pub inside : All (IsInside size) b.bodies.items
 
--- a job of such a code-block, and what it gives
+-- a job of such code-blocks, and what it gives
 abbrev pub IsSegmentJob : SegmentJob → Type 0
-IsSegmentJob j = IsBlockSegment (length j.bytes.now) j.segment.now
+IsSegmentJob j = All (IsBlockSegment (length j.bytes.now)) j.segments.now
 
-abbrev pub IsDecodedFrom : SegmentJob → Result DecodedBlock Fault → Type 0
-IsDecodedFrom j r = IfOk r (IsDecoded j.bytes.now)
+abbrev pub AreBlocksOf : List ℕ → Vec DecodedBlock → Type 0
+AreBlocksOf bytes v = All (IsDecoded bytes) v.items
+
+abbrev pub AreDecodedFrom : SegmentJob → Result (Vec DecodedBlock) Fault → Type 0
+AreDecodedFrom j r = IfOk r (AreBlocksOf j.bytes.now)
 
 -- such a job of this codestream
 pub record IsJobOf (bytes : List ℕ) (j : SegmentJob) : Type 0 where

@@ -40,6 +40,10 @@ pub record AreBandsUpto (s : ComponentFrame) (e : ℕ) (all : List BandStrips) :
 abbrev pub HaveRowsOf : ComponentFrame → (ℕ → ℕ → ℕ → ℤ) → List BandStrips → Type 0
 HaveRowsOf s f all = (b : ℕ) (other : BandStrips) → b < bands_in s → HasRowsOf s f (slice_index_or all b other)
 
+-- no row of code-blocks waits of which no row is missing
+abbrev pub NoneWait : ComponentFrame → List BandStrips → Type 0
+NoneWait s all = (b : ℕ) (other : BandStrips) → b < bands_in s → length (slice_index_or all b other).waiting.items ≡ 0
+
 -- ---- the levels
 
 -- The rows of the sub-bands that the levels made of rows d up to e of the tile-component are those of

@@ -1,8 +1,8 @@
 //! Code-blocks that are decoded side by side by workers, before the parts that are made of them.
 
-ghost use Rattle.std.specs.Prelude.{◌≡◌, ℕ, List, ◌≤◌, All, IsTrue, IfSome, IfOk, IfErr, length};
+ghost use Rattle.std.specs.Prelude.{◌≡◌, ℕ, List, ◌<◌, ◌≤◌, All, IsTrue, IfSome, IfOk, IfErr, length};
 ghost use Rattle.jk_math.specs.Memory.{IsMemory};
-ghost use Rattle.jk_tile.specs.decoding.Decoded.{AreDecoded, IsDecoded, IsDecodedAs, IsBlockSegment, IsJobOf};
+ghost use Rattle.jk_tile.specs.decoding.Decoded.{AreDecoded, IsDecoded, AreBlocksOf, IsDecodedAs, IsBlockSegment, IsJobOf};
 
 use crate::decoding::block::read_block;
 use crate::decoding::bodies::BodyPlace;
@@ -24,11 +24,14 @@ pub struct BlockSegment {
     pub(crate) bodies: Vec<BodyPlace>,
 }
 
-/// The codestream and a code-block of it.
+/// The least number of coefficients that the code-blocks of a job have, where there are so many.
+const JOB_COEFFICIENTS: usize = 1024;
+
+/// The codestream and code-blocks of it: one, or several small ones.
 #[derive(Clone, Copy)]
 pub(crate) struct SegmentJob<'a> {
     pub(crate) bytes: &'a [u8],
-    pub(crate) segment: &'a BlockSegment,
+    pub(crate) segments: &'a [BlockSegment],
 }
 
 /// A code-block that was decoded: of which shape, in a sub-band of how many bit-planes, from which
@@ -48,42 +51,59 @@ pub struct DecodedBlocks {
     by_start: BTreeMap<usize, usize>,
 }
 
-/// A code-block is decoded.
+/// Code-blocks are decoded, one after another.
 impl<'a> Work for SegmentJob<'a> {
-    ghost use Rattle.jk_tile.specs.decoding.Decoded.{IsSegmentJob, IsDecodedFrom};
+    ghost use Rattle.jk_tile.specs.decoding.Decoded.{IsSegmentJob, AreDecodedFrom};
 
     type Job = SegmentJob<'a>;
 
-    type Done = DecodedBlock;
+    type Done = Vec<DecodedBlock>;
 
     ghost accepts = { IsSegmentJob };
 
-    ghost gives = { IsDecodedFrom };
+    ghost gives = { AreDecodedFrom };
 
-    fn done(alloc: Global, job: &SegmentJob<'a>) -> Result<DecodedBlock, Fault> {
-        decode_segment(alloc, job.bytes, job.segment)
+    fn done(alloc: Global, job: &SegmentJob<'a>) -> Result<Vec<DecodedBlock>, Fault> {
+        decode_all(alloc, job.bytes, job.segments)
     }
 }
 
-/// Decodes a code-block.
+/// Decodes a code-block; `joined` is room for its segment.
 fn decode_segment(
     alloc: Global,
     bytes: &[u8],
     segment: &BlockSegment,
+    joined: &mut Vec<u8>,
 ) -> Result<DecodedBlock, Fault>
     requires { IsBlockSegment (length bytes.now) segment.now }
     ensures { IfOk result (IsDecoded bytes.now) }
 {
     let (shape, planes) = (segment.shape, segment.planes);
     let bodies = segment.bodies.to_vec(alloc)?;
-    let mut joined = Vec::new(alloc);
-    let block = read_block(alloc, bytes, &bodies, shape, planes, &mut joined)?;
+    let block = read_block(alloc, bytes, &bodies, shape, planes, joined)?;
     Ok(DecodedBlock {
         shape,
         planes,
         bodies,
         values: block.values,
     })
+}
+
+/// Decodes code-blocks, one after another.
+fn decode_all(
+    alloc: Global,
+    bytes: &[u8],
+    segments: &[BlockSegment],
+) -> Result<Vec<DecodedBlock>, Fault>
+    requires { All (IsBlockSegment (length bytes.now)) segments.now }
+    ensures { IfOk result (AreBlocksOf bytes.now) }
+{
+    let mut blocks = Vec::with_capacity(alloc, segments.len())?;
+    let mut joined = Vec::new(alloc);
+    for index in 0..segments.len() {
+        blocks.push(decode_segment(alloc, bytes, &segments[index], &mut joined)?)?;
+    }
+    Ok(blocks)
 }
 
 /// Whether two bodies are the same.
@@ -123,6 +143,26 @@ fn is_decoded_from(
     block.planes == planes && block.shape == shape && are_same(&block.bodies, bodies)
 }
 
+/// How many coefficients a code-block has.
+fn coefficients_of(segment: &BlockSegment) -> usize {
+    segment.shape.width.saturating_mul(segment.shape.height)
+}
+
+/// The end of the code-blocks of a job that begins with code-block `first`.
+fn job_end(segments: &[BlockSegment], first: usize) -> usize
+    requires { first < length segments.now }
+    ensures more { first < result }
+    ensures to { result ≤ length segments.now }
+{
+    let mut coefficients = coefficients_of(&segments[first]);
+    let mut end = first + 1;
+    while end < segments.len() && coefficients < JOB_COEFFICIENTS {
+        coefficients = coefficients.saturating_add(coefficients_of(&segments[end]));
+        end += 1;
+    }
+    end
+}
+
 /// Jobs of the code-blocks of a codestream.
 fn jobs_of<'a>(
     alloc: Global,
@@ -133,12 +173,30 @@ fn jobs_of<'a>(
     ensures jobs { IfOk result (λ v. All (IsJobOf bytes.now) v.items) }
     ensures memory { IfErr result IsMemory }
 {
-    let mut jobs = Vec::with_capacity(alloc, segments.len())?;
-    for index in 0..segments.len() {
-        let segment = &segments[index];
-        jobs.push(SegmentJob { bytes, segment })?;
+    let mut jobs = Vec::new(alloc);
+    let mut first = 0;
+    while first < segments.len() {
+        let end = job_end(segments, first);
+        jobs.push(SegmentJob {
+            bytes,
+            segments: &segments[first..end],
+        })?;
+        first = end;
     }
     Ok(jobs)
+}
+
+/// The code-blocks of all jobs.
+fn all_blocks(alloc: Global, groups: Vec<Vec<DecodedBlock>>) -> Result<Vec<DecodedBlock>, Fault>
+    ensures decoded { (bytes : List ℕ) → All (AreBlocksOf bytes) groups.items
+        → IfOk result (AreBlocksOf bytes) }
+    ensures memory { IfErr result IsMemory }
+{
+    let mut blocks = Vec::new(alloc);
+    for mut group in groups {
+        blocks.append(&mut group)?;
+    }
+    Ok(blocks)
 }
 
 /// Code-blocks that were decoded, by where their bytes begin.
@@ -157,7 +215,8 @@ fn by_start(alloc: Global, blocks: Vec<DecodedBlock>) -> Result<DecodedBlocks, F
 
 /// Decodes code-blocks of a codestream, side by side by workers. The fault of one of them is answered.
 ///
-/// `gate` is told of each code-block, when it begins and when it has ended.
+/// `gate` is told of each code-block of at least 1,024 coefficients, when it begins and when it has
+/// ended; of smaller ones that stand one behind another it is told of as many at once.
 pub fn decode_segments<R: Threads + Sync, G: Gate + Sync>(
     workers: &Workers<'_, R>,
     alloc: Global,
@@ -169,8 +228,8 @@ pub fn decode_segments<R: Threads + Sync, G: Gate + Sync>(
     ensures { IfOk result (AreDecoded bytes.now) }
 {
     let jobs = jobs_of(alloc, bytes, segments)?;
-    let blocks = map_jobs::<SegmentJob<'_>, R, G>(workers.rt, alloc, workers.count, gate, &jobs)?;
-    by_start(alloc, blocks)
+    let groups = map_jobs::<SegmentJob<'_>, R, G>(workers.rt, alloc, workers.count, gate, &jobs)?;
+    by_start(alloc, all_blocks(alloc, groups)?)
 }
 
 impl DecodedBlocks {

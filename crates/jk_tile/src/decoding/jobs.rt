@@ -33,8 +33,9 @@ use std::alloc::Global;
 use std::marker::Sync;
 use std::thread::Threads;
 
-/// The least number of coefficients of a code-block that is a job of its own.
-const LEAST: usize = 1024;
+/// The least number of coefficients of a code-block that is decoded before the rows that it is in: to
+/// keep a smaller one takes as long as to decode it.
+const LEAST: usize = 64;
 
 /// Appends a code-block of a part of a sub-band that has these bodies, if it has any and isn't
 /// small.

@@ -11,11 +11,13 @@ ghost use Rattle.jk_tile.specs.TileBlocks.{band_resolution, band_index};
 ghost use Rattle.jk_tile.specs.encoding.Strips.{IsFrame};
 ghost use Rattle.jk_tile.specs.encoding.FallenComponents.{fallen_band, IsFallen, IsCodedOf};
 ghost use Rattle.jk_tile.specs.encoding.FallingComponents.{band_fallen, AreBandsUpto, HaveRowsOf, HasMade, AreFew};
-ghost use Rattle.jk_tile.specs.encoding.FallingComponents.{AreSixteen, IsStanding, HasSamples};
+ghost use Rattle.jk_tile.specs.encoding.FallingComponents.{AreSixteen, IsStanding, HasSamples, NoneWait};
+ghost use Rattle.jk_tile.specs.encoding.Ahead.{AreUncoded, IsCodedAhead};
 
+use crate::encoding::ahead::{CodedBlocks, UncodedBlocks};
 use crate::encoding::component::WrittenComponent;
 use crate::encoding::fallen::{FallenBand, FallenComponent};
-use crate::encoding::strips::BandStrips;
+use crate::encoding::strips::{BandStrips, When};
 use jk_geom::resolution;
 use jk_math::Fault;
 use jk_wave::theorems::{level_fallen, levels_fallen};
@@ -91,6 +93,7 @@ fn put_all(
     from: u32,
     to: u32,
     bands: &mut Vec<BandStrips>,
+    when: When,
 ) -> Result<(), Fault>
     requires standing { IsGivenSmall falling.now }
     requires levels { falling.now.levels ≡ source.now.coding.levels }
@@ -108,7 +111,49 @@ fn put_all(
     for b in 0..bands.len() {
         let strips = &mut bands[b];
         let end = rows_made(source, to, strips.resolution, strips.band);
-        strips.put(alloc, source, end, falling.rows(b as u8))?;
+        strips.put(alloc, source, end, falling.rows(b as u8), when)?;
+    }
+    Ok(())
+}
+
+/// Codes all rows of code-blocks of the sub-bands that wait.
+fn code_all(
+    alloc: Global,
+    source: &WrittenComponent<'_>,
+    bands: &mut Vec<BandStrips>,
+) -> Result<(), Fault>
+    requires bands { (e : ℕ) × AreBandsUpto source.now e bands.old.items }
+    ensures bands { OnOk result ((e : ℕ) → AreBandsUpto source.now e bands.old.items
+        → AreBandsUpto source.now e bands.new.items) }
+    ensures none { OnOk result (NoneWait source.now bands.new.items) }
+    ensures rows { OnOk result ((f : ℕ → ℕ → ℕ → ℤ) → HaveRowsOf source.now f bands.old.items
+        → HaveRowsOf source.now f bands.new.items) }
+    ensures memory { IfErr result IsMemory }
+{
+    for b in 0..bands.len() {
+        bands[b].code_all(alloc, source)?;
+    }
+    Ok(())
+}
+
+/// Codes the rows of code-blocks of the sub-bands that were listed, from what was coded ahead.
+fn code_listed(
+    alloc: Global,
+    source: &WrittenComponent<'_>,
+    ahead: &mut CodedBlocks,
+    bands: &mut Vec<BandStrips>,
+) -> Result<(), Fault>
+    requires bands { (e : ℕ) × AreBandsUpto source.now e bands.old.items }
+    requires ahead { IsCodedAhead ahead.old }
+    ensures bands { OnOk result ((e : ℕ) → AreBandsUpto source.now e bands.old.items
+        → AreBandsUpto source.now e bands.new.items) }
+    ensures rows { OnOk result ((f : ℕ → ℕ → ℕ → ℤ) → HaveRowsOf source.now f bands.old.items
+        → HaveRowsOf source.now f bands.new.items) }
+    ensures ahead { OnOk result (IsCodedAhead ahead.new) }
+    ensures memory { IfErr result IsMemory }
+{
+    for b in 0..bands.len() {
+        bands[b].code_listed(alloc, source, ahead)?;
     }
     Ok(())
 }
@@ -145,14 +190,15 @@ impl FallingComponent {
     }
 
     /// Takes the rows of samples up to row `e`, of which `rows` is the list, and codes the
-    /// code-blocks of which no row is missing any more. `rows` becomes room for the next. Memory is
-    /// the only fault; the component isn't to be used behind it.
+    /// code-blocks of which no row is missing any more, or lets them wait. `rows` becomes room for
+    /// the next. Memory is the only fault; the component isn't to be used behind it.
     pub fn give(
         &mut self,
         alloc: Global,
         source: &WrittenComponent<'_>,
         e: u32,
         rows: &mut Vec<i32>,
+        when: When,
     ) -> Result<(), Fault>
         requires standing { IsStanding source.now self.old }
         requires order { self.old.y ≤ e }
@@ -167,10 +213,56 @@ impl FallingComponent {
         ensures memory { IfErr result IsMemory }
     {
         self.falling.give(e, rows)?;
-        put_all(alloc, source, &self.falling, self.y, e, &mut self.bands)?;
+        put_all(
+            alloc,
+            source,
+            &self.falling,
+            self.y,
+            e,
+            &mut self.bands,
+            when,
+        )?;
         self.falling.clear();
         self.y = e;
         Ok(())
+    }
+
+    /// Lists the code-blocks that wait, of which no row is missing. Memory is the only fault.
+    pub fn list_waiting(
+        &self,
+        alloc: Global,
+        source: &WrittenComponent<'_>,
+        uncoded: &mut UncodedBlocks,
+    ) -> Result<(), Fault>
+        requires standing { IsStanding source.now self.now }
+        requires uncoded { AreUncoded uncoded.old }
+        ensures uncoded { OnOk result (AreUncoded uncoded.new) }
+        ensures memory { IfErr result IsMemory }
+    {
+        for b in 0..self.bands.len() {
+            self.bands[b].list_waiting(alloc, source, uncoded)?;
+        }
+        Ok(())
+    }
+
+    /// Codes the code-blocks that were listed, from what was coded ahead. Memory is the only fault;
+    /// the component isn't to be used behind it.
+    pub fn code_listed(
+        &mut self,
+        alloc: Global,
+        source: &WrittenComponent<'_>,
+        ahead: &mut CodedBlocks,
+    ) -> Result<(), Fault>
+        requires standing { IsStanding source.now self.old }
+        requires ahead { IsCodedAhead ahead.old }
+        ensures standing { OnOk result (IsStanding source.now self.new) }
+        ensures rows { OnOk result ((f : ℕ → ℕ → ℤ) → HasSamples source.now f self.old
+            → HasSamples source.now f self.new) }
+        ensures next { OnOk result (self.new.y ≡ self.old.y) }
+        ensures ahead { OnOk result (IsCodedAhead ahead.new) }
+        ensures memory { IfErr result IsMemory }
+    {
+        code_listed(alloc, source, ahead, &mut self.bands)
     }
 
     /// What is kept behind the last row: no row waits any more. Memory is the only fault.
@@ -187,8 +279,10 @@ impl FallingComponent {
     {
         level_fallen();
         levels_fallen();
+        let mut bands = self.bands;
+        code_all(alloc, source, &mut bands)?;
         Ok(FallenComponent {
-            bands: keep_all(alloc, self.bands)?,
+            bands: keep_all(alloc, bands)?,
         })
     }
 }

@@ -8,11 +8,14 @@ ghost use Rattle.jk_tile.specs.encoding.Strips.{IsFrame};
 ghost use Rattle.jk_tile.specs.encoding.FallenTiles.{fallen_in, IsFallenTile, IsCodedTile};
 ghost use Rattle.jk_tile.specs.encoding.FallingTiles.{components_in, IsStandingTile, HasTileSamples};
 ghost use Rattle.jk_tile.specs.encoding.FallingTiles.{IsStripeOf, AreTileSixteen, GivesTile};
+ghost use Rattle.jk_tile.specs.encoding.Ahead.{AreUncoded, IsCodedAhead};
 
+use crate::encoding::ahead::{CodedBlocks, UncodedBlocks};
 use crate::encoding::component::WrittenComponent;
 use crate::encoding::fallen::FallenComponent;
 use crate::encoding::fallen_tile::FallenTile;
 use crate::encoding::falling::FallingComponent;
+use crate::encoding::strips::When;
 use crate::encoding::values::put_values;
 use jk_math::{Fault, Image, Rect};
 use std::alloc::Global;
@@ -64,8 +67,8 @@ impl FallingTile {
     }
 
     /// Takes what a stripe of rows of the image has of the tile, and codes the code-blocks of which no
-    /// row is missing any more. `values` is room for a component of the stripe. Memory is the only
-    /// fault; the tile isn't to be used behind it.
+    /// row is missing any more, or lets them wait. `values` is room for a component of the stripe.
+    /// Memory is the only fault; the tile isn't to be used behind it.
     pub fn give(
         &mut self,
         alloc: Global,
@@ -73,6 +76,7 @@ impl FallingTile {
         colours: bool,
         stripe: &Image,
         values: &mut Vec<i32>,
+        when: When,
     ) -> Result<(), Fault>
         requires standing { IsStandingTile source.now self.old }
         requires picture { IsPicture stripe.now }
@@ -91,9 +95,51 @@ impl FallingTile {
         let part = part_of(source, stripe);
         for c in 0..self.components.len() {
             put_values(alloc, stripe, colours, c, &part, values)?;
-            self.components[c].give(alloc, source, part.y1, values)?;
+            self.components[c].give(alloc, source, part.y1, values, when)?;
         }
         self.y = part.y1;
+        Ok(())
+    }
+
+    /// Lists the code-blocks that wait, of which no row is missing. Memory is the only fault.
+    pub fn list_waiting(
+        &self,
+        alloc: Global,
+        source: &WrittenComponent<'_>,
+        uncoded: &mut UncodedBlocks,
+    ) -> Result<(), Fault>
+        requires standing { IsStandingTile source.now self.now }
+        requires uncoded { AreUncoded uncoded.old }
+        ensures uncoded { OnOk result (AreUncoded uncoded.new) }
+        ensures memory { IfErr result IsMemory }
+    {
+        for c in 0..self.components.len() {
+            self.components[c].list_waiting(alloc, source, uncoded)?;
+        }
+        Ok(())
+    }
+
+    /// Codes the code-blocks that were listed, from what was coded ahead. Memory is the only fault; the
+    /// tile isn't to be used behind it.
+    pub fn code_listed(
+        &mut self,
+        alloc: Global,
+        source: &WrittenComponent<'_>,
+        ahead: &mut CodedBlocks,
+    ) -> Result<(), Fault>
+        requires standing { IsStandingTile source.now self.old }
+        requires ahead { IsCodedAhead ahead.old }
+        ensures standing { OnOk result (IsStandingTile source.now self.new) }
+        ensures count { OnOk result (components_in self.new ≡ components_in self.old) }
+        ensures rows { OnOk result ((f : ℕ → ℕ → ℕ → ℤ) → HasTileSamples source.now f self.old
+            → HasTileSamples source.now f self.new) }
+        ensures next { OnOk result (self.new.y ≡ self.old.y) }
+        ensures ahead { OnOk result (IsCodedAhead ahead.new) }
+        ensures memory { IfErr result IsMemory }
+    {
+        for c in 0..self.components.len() {
+            self.components[c].code_listed(alloc, source, ahead)?;
+        }
         Ok(())
     }
 

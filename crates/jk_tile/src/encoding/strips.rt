@@ -1,41 +1,39 @@
 //! The code-blocks of a sub-band whose rows come one after another. The rows of a row of code-blocks
 //! wait in a list; with the last of them its code-blocks are cut out, coded and cut into layers, and
-//! the list begins anew. What is coded is kept by precinct.
+//! the list begins anew. Or the whole row of code-blocks waits, until workers have coded what it
+//! has. What is coded is kept by precinct.
 
-ghost use Rattle.std.specs.Prelude.{◌≡◌, ℕ, ℤ, ◌+◌, ◌-◌, ◌*◌, ◌%◌, ◌^◌, ◌<◌, ◌≤◌, ◌||◌, ◌==◌, ◌++◌, nat_le, false, length, take, drop};
+ghost use Rattle.std.specs.Prelude.{◌≡◌, ℕ, ℤ, ◌+◌, ◌-◌, ◌*◌, ◌%◌, ◌^◌, ◌<◌, ◌≤◌, ◌||◌, ◌==◌, nat_le, [], length, take, drop};
 ghost use Rattle.std.specs.Prelude.{All, unsigned_abs, IfOk, IfErr, OnOk};
 ghost use Rattle.jk_math.specs.Memory.{IsMemory};
-ghost use Rattle.jk_math.specs.Lists.{list_at};
-ghost use Rattle.jk_math.specs.Raster.{columns_of, plane_at, raster};
-ghost use Rattle.jk_geom.specs.Rectangles.{is_empty};
-ghost use Rattle.jk_geom.specs.Precincts.{precinct_number, precincts_across};
+ghost use Rattle.jk_math.specs.Raster.{columns_of, raster};
 ghost use Rattle.jk_wave.specs.climbing.Held.{rows_between};
 ghost use Rattle.jk_walk.specs.TilePackets.{orientations, band_number};
-ghost use Rattle.jk_tile.specs.encoding.Strips.{IsWholeRow, first_precinct_at, layered_between, band_at, own_band};
+ghost use Rattle.jk_tile.specs.encoding.Ahead.{AreUncoded, IsCodedAhead};
+ghost use Rattle.jk_tile.specs.encoding.Strips.{ComponentFrame, band_at, own_band};
 ghost use Rattle.jk_tile.specs.decoding.Strips.{block_exponent};
 ghost use Rattle.jk_tile.specs.encoding.Strips.{row_end, HoldsRows, IsBetweenRows, HasRowsOf};
 
-use crate::bands::{BandPart, orientation};
+use crate::bands::orientation;
 use crate::decoding::block_exponent;
+use crate::encoding::ahead::{CodedBlocks, UncodedBlocks};
 use crate::encoding::component::WrittenComponent;
 use crate::encoding::lists::add_lists;
+use crate::encoding::row_coding::{Strip, code_strip, list_strip};
 use crate::encoding::tables::LayeredBlock;
-use crate::encoding::writing::code_block;
 use jk_block::top_bits;
-use jk_geom::{
-    band, blocks, is_empty, precinct_count, precinct_part_size, precinct_size, resolution,
-};
+use jk_geom::{band, precinct_count};
 use jk_math::{Fault, Rect};
 use std::alloc::Global;
+use std::mem;
 
-/// A row of code-blocks of sub-band `band` of a resolution: its rectangle, which is as wide as the
-/// sub-band, and the coefficients there, row by row.
+/// When a row of code-blocks is coded of which no row is missing any more.
 #[derive(Clone, Copy)]
-pub(crate) struct Strip<'a> {
-    pub(crate) resolution: u8,
-    pub(crate) band: u8,
-    pub(crate) area: Rect,
-    pub(crate) values: &'a [i32],
+pub enum When {
+    /// With the last of its rows.
+    Now,
+    /// When it is asked for.
+    Later,
 }
 
 /// Some of the numbers of a list.
@@ -55,83 +53,22 @@ fn is_start(area: &Rect, y: u32, exponent: u8) -> bool
     area.y1 <= y || y % (1u32 << exponent) == 0
 }
 
-/// The first of the precincts that have code-blocks of a row.
-fn first_precinct(source: &WrittenComponent<'_>, strip: Strip<'_>) -> u32
-    requires strip { IsWholeRow source.now strip }
-    requires some { is_empty strip.area ≡ false }
-    ensures value { result ≡ first_precinct_at source.now strip.entry.resolution strip.entry.area.y0 }
-    ensures inside { result + precincts_across source.now.rect source.now.coding strip.entry.resolution
-        ≤ precinct_number source.now.rect source.now.coding strip.entry.resolution }
+/// Makes a list of numbers room for those that come, where there is none.
+fn keep_room(numbers: &mut Vec<i32>, room: Vec<i32>)
+    ensures { numbers.new.items ≡ numbers.old.items }
 {
-    let r = strip.resolution;
-    let rect = source.rect();
-    let coding = source.coding();
-    let area = resolution(&rect, coding.levels, r);
-    let (across, _) = precinct_count(&rect, coding, r);
-    let below = strip.area.y0 >> precinct_part_size(coding, r).1;
-    let row = below - (area.y0 >> precinct_size(coding, r).1);
-    row * across
+    if numbers.is_empty() {
+        *numbers = room;
+        numbers.clear();
+    }
 }
 
-/// Codes the code-blocks that a precinct has of a row of them, and puts them behind the ones above.
-fn code_part(
-    alloc: Global,
-    source: &WrittenComponent<'_>,
-    strip: Strip<'_>,
-    precinct: u32,
-    coded: &mut Vec<LayeredBlock>,
-) -> Result<(), Fault>
-    requires strip { IsWholeRow source.now strip }
-    requires precinct { precinct < precinct_number source.now.rect source.now.coding strip.resolution }
-    ensures coded { OnOk result (coded.new.items ≡ coded.old.items
-        ++ layered_between source.now (λ _. plane_at strip.entry.area strip.entry.values.now)
-        strip.entry.resolution precinct strip.entry.band strip.entry.area.y0 strip.entry.area.y1) }
-    ensures memory { IfErr result IsMemory }
-{
-    let rect = source.rect();
-    let coding = source.coding();
-    let orientation = orientation(strip.resolution, strip.band);
-    let grid = blocks(&rect, coding, strip.resolution, precinct, orientation);
-    let row = strip.area.y0 >> grid.height;
-    if row < grid.row || grid.row + grid.down <= row {
-        return Ok(());
-    }
-    let first = (row - grid.row) * grid.across;
-    for k in 0..grid.across {
-        let place = grid.block(first + k);
-        let (area, values) = (&strip.area, strip.values);
-        let block = code_block(alloc, area, values, &place, orientation, coding.style)?;
-        coded.push(LayeredBlock::new(alloc, block, source.layers())?)?;
-    }
-    Ok(())
-}
-
-/// Codes the code-blocks of a row of them, and puts those of each precinct behind the ones above.
-fn code_strip(
-    alloc: Global,
-    source: &WrittenComponent<'_>,
-    strip: Strip<'_>,
-    coded: &mut Vec<Vec<LayeredBlock>>,
-) -> Result<(), Fault>
-    requires strip { IsWholeRow source.now strip }
-    requires count { length coded.old.items ≡ precinct_number source.now.rect source.now.coding strip.resolution }
-    ensures coded { OnOk result ((n : ℕ) → n < precinct_number source.now.rect source.now.coding strip.entry.resolution
-        → list_at coded.new.items n ≡ list_at coded.old.items n
-        ++ layered_between source.now (λ _. plane_at strip.entry.area strip.entry.values.now)
-        strip.entry.resolution n strip.entry.band strip.entry.area.y0 strip.entry.area.y1) }
-    ensures count { OnOk result (length coded.new.items ≡ length coded.old.items) }
-    ensures memory { IfErr result IsMemory }
-{
-    if is_empty(&strip.area) {
-        return Ok(());
-    }
-    let rect = source.rect();
-    let (across, _) = precinct_count(&rect, source.coding(), strip.resolution);
-    let first = first_precinct(source, strip);
-    for n in first..first + across {
-        code_part(alloc, source, strip, n, &mut coded[n as usize])?;
-    }
-    Ok(())
+/// A row of code-blocks that waits: its rectangle, which is as wide as the sub-band, and the
+/// coefficients there, row by row.
+#[derive(Drop)]
+pub(crate) struct WaitingRow {
+    pub(crate) area: Rect,
+    pub(crate) values: Vec<i32>,
 }
 
 /// A sub-band between two of its rows.
@@ -140,11 +77,15 @@ pub(crate) struct BandStrips {
     /// It is sub-band `band` of this resolution, in the order of its packets.
     pub(crate) resolution: u8,
     pub(crate) band: u8,
-    /// The rectangle of the rows that wait: the row below it is next.
+    /// Its code-blocks above this row are coded.
+    pub(crate) top: u32,
+    /// The rows of code-blocks from there on of which no row is missing.
+    pub(crate) waiting: Vec<WaitingRow>,
+    /// The rectangle of the rows that wait below: the row below it is next.
     pub(crate) area: Rect,
     /// The coefficients there, row by row.
     pub(crate) strip: Vec<i32>,
-    /// The code-blocks above, precinct by precinct.
+    /// The code-blocks that are coded, precinct by precinct.
     pub(crate) blocks: Vec<Vec<LayeredBlock>>,
     /// How many bits the greatest magnitude of all rows has.
     pub(crate) bits: u8,
@@ -175,6 +116,8 @@ impl BandStrips {
         Ok(BandStrips {
             resolution: r,
             band: i,
+            top: area.y0,
+            waiting: Vec::new(alloc),
             area: Rect {
                 y1: area.y0,
                 ..area
@@ -185,8 +128,157 @@ impl BandStrips {
         })
     }
 
-    /// Codes the code-blocks of the row of them whose rows wait, of which none is missing.
-    fn code_waiting(&mut self, alloc: Global, source: &WrittenComponent<'_>) -> Result<(), Fault>
+    /// Lets the row of code-blocks wait whose rows wait, of which none is missing.
+    fn wait(&mut self, alloc: Global) -> Result<(), Fault>
+        ensures name { OnOk result ((self.new.resolution ≡ self.old.resolution) × (self.new.band ≡ self.old.band)
+            × (self.new.area.y1 ≡ self.old.area.y1)) }
+        ensures holds { OnOk result ((s : ComponentFrame) → HoldsRows s self.old → self.old.area.y0 < self.old.area.y1
+            → self.old.area.y1 ≡ row_end (own_band s self.old) (block_exponent s.coding self.old.resolution) self.old.area.y0
+            → IsBetweenRows s self.new) }
+        ensures rows { OnOk result ((s : ComponentFrame) (f : ℕ → ℕ → ℕ → ℤ) → HasRowsOf s f self.old
+            → HasRowsOf s f self.new) }
+        ensures memory { IfErr result IsMemory }
+    {
+        let values = mem::replace(&mut self.strip, Vec::new(alloc));
+        self.waiting.push(WaitingRow {
+            area: self.area,
+            values,
+        })?;
+        self.area.y0 = self.area.y1;
+        Ok(())
+    }
+
+    /// Codes the first of the rows of code-blocks that wait. Its list becomes room for the rows that
+    /// come, where none of these waits.
+    fn code_first(
+        &mut self,
+        alloc: Global,
+        source: &WrittenComponent<'_>,
+        ahead: &mut CodedBlocks,
+    ) -> Result<(), Fault>
+        requires holds { IsBetweenRows source.now self.old }
+        requires some { 0 < length self.old.waiting.items }
+        requires ahead { IsCodedAhead ahead.old }
+        ensures name { OnOk result ((self.new.resolution ≡ self.old.resolution) × (self.new.band ≡ self.old.band)
+            × (self.new.area ≡ self.old.area)) }
+        ensures less { OnOk result (length self.new.waiting.items + 1 ≡ length self.old.waiting.items) }
+        ensures holds { OnOk result (IsBetweenRows source.now self.new) }
+        ensures rows { OnOk result ((f : ℕ → ℕ → ℕ → ℤ) → HasRowsOf source.now f self.old
+            → HasRowsOf source.now f self.new) }
+        ensures ahead { OnOk result (IsCodedAhead ahead.new) }
+        ensures memory { IfErr result IsMemory }
+    {
+        let row = self.waiting.remove(0);
+        let strip = Strip {
+            resolution: self.resolution,
+            band: self.band,
+            area: row.area,
+            values: &row.values,
+        };
+        code_strip(alloc, source, strip, ahead, &mut self.blocks)?;
+        self.top = row.area.y1;
+        keep_room(&mut self.strip, row.values);
+        Ok(())
+    }
+
+    /// Codes so many of the rows of code-blocks that wait, from the first one on, as far as there are.
+    fn code_rows(
+        &mut self,
+        alloc: Global,
+        source: &WrittenComponent<'_>,
+        count: usize,
+        ahead: &mut CodedBlocks,
+    ) -> Result<(), Fault>
+        requires holds { IsBetweenRows source.now self.old }
+        requires ahead { IsCodedAhead ahead.old }
+        ensures name { OnOk result ((self.new.resolution ≡ self.old.resolution) × (self.new.band ≡ self.old.band)
+            × (self.new.area ≡ self.old.area)) }
+        ensures none { length self.old.waiting.items ≤ count → OnOk result (length self.new.waiting.items ≡ 0) }
+        ensures holds { OnOk result (IsBetweenRows source.now self.new) }
+        ensures rows { OnOk result ((f : ℕ → ℕ → ℕ → ℤ) → HasRowsOf source.now f self.old
+            → HasRowsOf source.now f self.new) }
+        ensures ahead { OnOk result (IsCodedAhead ahead.new) }
+        ensures memory { IfErr result IsMemory }
+    {
+        for _ in 0..count.min(self.waiting.len()) {
+            self.code_first(alloc, source, ahead)?;
+        }
+        Ok(())
+    }
+
+    /// Codes all rows of code-blocks that wait.
+    pub(crate) fn code_all(
+        &mut self,
+        alloc: Global,
+        source: &WrittenComponent<'_>,
+    ) -> Result<(), Fault>
+        requires holds { IsBetweenRows source.now self.old }
+        ensures name { OnOk result ((self.new.resolution ≡ self.old.resolution) × (self.new.band ≡ self.old.band)
+            × (self.new.area ≡ self.old.area)) }
+        ensures none { OnOk result (length self.new.waiting.items ≡ 0) }
+        ensures holds { OnOk result (IsBetweenRows source.now self.new) }
+        ensures rows { OnOk result ((f : ℕ → ℕ → ℕ → ℤ) → HasRowsOf source.now f self.old
+            → HasRowsOf source.now f self.new) }
+        ensures memory { IfErr result IsMemory }
+    {
+        let count = self.waiting.len();
+        self.code_rows(alloc, source, count, &mut CodedBlocks::none(alloc))
+    }
+
+    /// Codes the rows of code-blocks that were listed, from what was coded ahead.
+    pub(crate) fn code_listed(
+        &mut self,
+        alloc: Global,
+        source: &WrittenComponent<'_>,
+        ahead: &mut CodedBlocks,
+    ) -> Result<(), Fault>
+        requires holds { IsBetweenRows source.now self.old }
+        requires ahead { IsCodedAhead ahead.old }
+        ensures name { OnOk result ((self.new.resolution ≡ self.old.resolution) × (self.new.band ≡ self.old.band)
+            × (self.new.area ≡ self.old.area)) }
+        ensures holds { OnOk result (IsBetweenRows source.now self.new) }
+        ensures rows { OnOk result ((f : ℕ → ℕ → ℕ → ℤ) → HasRowsOf source.now f self.old
+            → HasRowsOf source.now f self.new) }
+        ensures ahead { OnOk result (IsCodedAhead ahead.new) }
+        ensures memory { IfErr result IsMemory }
+    {
+        let count = ahead.next_rows();
+        self.code_rows(alloc, source, count, ahead)
+    }
+
+    /// Lists the code-blocks of the rows of them that wait, and how many such rows there are.
+    pub(crate) fn list_waiting(
+        &self,
+        alloc: Global,
+        source: &WrittenComponent<'_>,
+        uncoded: &mut UncodedBlocks,
+    ) -> Result<(), Fault>
+        requires holds { IsBetweenRows source.now self.now }
+        requires uncoded { AreUncoded uncoded.old }
+        ensures uncoded { OnOk result (AreUncoded uncoded.new) }
+        ensures memory { IfErr result IsMemory }
+    {
+        for index in 0..self.waiting.len() {
+            let row = &self.waiting[index];
+            let strip = Strip {
+                resolution: self.resolution,
+                band: self.band,
+                area: row.area,
+                values: &row.values,
+            };
+            list_strip(alloc, source, strip, uncoded)?;
+        }
+        uncoded.rows.push(self.waiting.len())?;
+        Ok(())
+    }
+
+    /// Codes the row of code-blocks whose rows wait, or lets it wait. None of its rows is missing.
+    fn end_row(
+        &mut self,
+        alloc: Global,
+        source: &WrittenComponent<'_>,
+        when: When,
+    ) -> Result<(), Fault>
         requires holds { HoldsRows source.now self.old }
         requires some { self.old.area.y0 < self.old.area.y1 }
         requires whole { self.old.area.y1 ≡ row_end (own_band source.now self.old)
@@ -198,20 +290,20 @@ impl BandStrips {
             → HasRowsOf source.now f self.new) }
         ensures memory { IfErr result IsMemory }
     {
-        let strip = Strip {
-            resolution: self.resolution,
-            band: self.band,
-            area: self.area,
-            values: &self.strip,
-        };
-        code_strip(alloc, source, strip, &mut self.blocks)?;
-        self.strip.clear();
-        self.area.y0 = self.area.y1;
-        Ok(())
+        self.wait(alloc)?;
+        match when {
+            When::Now => self.code_all(alloc, source),
+            When::Later => Ok(()),
+        }
     }
 
-    /// Codes the code-blocks of the row of them whose rows wait, where none of its rows is missing.
-    fn code_complete(&mut self, alloc: Global, source: &WrittenComponent<'_>) -> Result<(), Fault>
+    /// Ends the row of code-blocks whose rows wait, where none of its rows is missing.
+    fn complete(
+        &mut self,
+        alloc: Global,
+        source: &WrittenComponent<'_>,
+        when: When,
+    ) -> Result<(), Fault>
         requires holds { HoldsRows source.now self.old }
         requires some { self.old.area.y0 < self.old.area.y1 }
         ensures name { OnOk result ((self.new.resolution ≡ self.old.resolution) × (self.new.band ≡ self.old.band)
@@ -226,7 +318,7 @@ impl BandStrips {
         let area = band(&source.rect(), coding.levels, self.resolution, orientation);
         let exponent = block_exponent(coding, self.resolution);
         if is_start(&area, self.area.y1, exponent) {
-            return self.code_waiting(alloc, source);
+            return self.end_row(alloc, source, when);
         }
         Ok(())
     }
@@ -237,6 +329,7 @@ impl BandStrips {
         alloc: Global,
         source: &WrittenComponent<'_>,
         row: &[i32],
+        when: When,
     ) -> Result<(), Fault>
         requires holds { IsBetweenRows source.now self.old }
         requires inside { self.old.area.y1 < (own_band source.now self.old).y1 }
@@ -254,18 +347,19 @@ impl BandStrips {
         self.strip.extend_from_slice(row)?;
         self.bits = self.bits.max(top_bits(row) as u8);
         self.area.y1 += 1;
-        self.code_complete(alloc, source)
+        self.complete(alloc, source, when)
     }
 
     /// Puts in the rows up to row `to`, of which `rows` is the list, and codes the code-blocks of
-    /// which no row is missing any more. Memory is the only fault; the sub-band isn't to be used
-    /// behind it.
+    /// which no row is missing any more, or lets them wait. Memory is the only fault; the sub-band
+    /// isn't to be used behind it.
     pub(crate) fn put(
         &mut self,
         alloc: Global,
         source: &WrittenComponent<'_>,
         to: u32,
         rows: &[i32],
+        when: When,
     ) -> Result<(), Fault>
         requires holds { IsBetweenRows source.now self.old }
         requires order { self.old.area.y1 ≤ to }
@@ -285,7 +379,7 @@ impl BandStrips {
         let from = self.area.y1;
         for y in from..to {
             let row = cut(rows, (y - from) as usize * width, width);
-            self.put_row(alloc, source, row)?;
+            self.put_row(alloc, source, row, when)?;
         }
         Ok(())
     }

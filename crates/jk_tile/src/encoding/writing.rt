@@ -9,13 +9,14 @@ ghost use Rattle.jk_geom.specs.Blocks.{IsGrid};
 ghost use Rattle.jk_geom.specs.Rectangles.{IsArea};
 ghost use Rattle.jk_geom.specs.Precincts.{precinct_number};
 ghost use Rattle.jk_block.specs.BlockWritten.{coded};
-ghost use Rattle.jk_block.specs.CodedBlocks.{contents};
+ghost use Rattle.jk_block.specs.CodedBlocks.{contents, shape_of};
 ghost use Rattle.jk_walk.specs.TilePackets.{orientations, band_number};
 ghost use Rattle.jk_tile.specs.encoding.PacketsWritten.{IsCodedBlock, band_tables_at, precinct_tables, block_table};
 ghost use Rattle.jk_tile.specs.Filling.{IsPartOf};
 ghost use Rattle.jk_tile.specs.TileBlocks.{grid_at, shape_of_area, IsBlockShape};
 ghost use Rattle.jk_tile.specs.encoding.TileWritten.{coded_at, coefficient_of, AreWrittenBands};
 ghost use Rattle.jk_tile.specs.encoding.TileWritten.{IsWrittenPart};
+ghost use Rattle.jk_tile.specs.encoding.Ahead.{IsCodable};
 
 use crate::bands::{BandPart, band_count, band_planes, orientation, shape_at};
 use crate::encoding::cutting::cut_out;
@@ -112,9 +113,39 @@ pub(crate) fn number_of(r: u8, i: u8) -> usize
     }
 }
 
+/// Cuts the code-block at a place out of a rectangle of a sub-band, whose coefficients are these, row by
+/// row.
+pub(crate) fn cut_block(
+    alloc: Global,
+    area: &Rect,
+    values: &[i32],
+    place: &Rect,
+    orientation: Orientation,
+    style: Style,
+) -> Result<Block, Fault>
+    requires area { IsArea area.now }
+    requires part { IsPartOf place.now area.now }
+    requires whole { length values.now ≡ places_of area.now }
+    requires fits { IsBlockShape (shape_of_area place.now orientation style) }
+    requires small { All (λ v. unsigned_abs v < 2 ^ 23) values.now }
+    ensures block { IfOk result IsCodable }
+    ensures shape { IfOk result (λ b. shape_of b ≡ shape_of_area place.now orientation style) }
+    ensures values { IfOk result (λ b. b.values.items ≡ raster place.now (plane_at area.now values.now)) }
+    ensures memory { IfErr result IsMemory }
+{
+    let shape = shape_at(place, orientation, style);
+    Ok(Block {
+        width: shape.width,
+        height: shape.height,
+        orientation: shape.orientation,
+        style: shape.style,
+        values: cut_out(alloc, area, values, place)?,
+    })
+}
+
 /// Codes the code-block at a place of a rectangle of a sub-band, whose coefficients are these, row by
 /// row.
-pub(crate) fn code_block(
+fn code_block(
     alloc: Global,
     area: &Rect,
     values: &[i32],
@@ -132,14 +163,7 @@ pub(crate) fn code_block(
         ≡ coded (shape_of_area place.now orientation style) (raster place.now (plane_at area.now values.now))) }
     ensures memory { IfErr result IsMemory }
 {
-    let shape = shape_at(place, orientation, style);
-    let block = Block {
-        width: shape.width,
-        height: shape.height,
-        orientation: shape.orientation,
-        style: shape.style,
-        values: cut_out(alloc, area, values, place)?,
-    };
+    let block = cut_block(alloc, area, values, place, orientation, style)?;
     code(alloc, &block)
 }
 

@@ -1,10 +1,8 @@
-use Rattle.std.proofs.Common.{◌≡◌, ◌<◌, ◌≤◌, ◌+◌, length, refl, sym, subst, ◌∙◌, arith}
+use Rattle.std.proofs.Common.{◌≡◌, length, refl, sym, subst, ◌∙◌, arith}
 use Rattle.std.proofs.lemmas.Result.{err_from_is_err_and}
-use Rattle.jk_math.specs.Picture.{IsPicture}
-use Rattle.jk_params.specs.declared.picture_frame.PictureFrame.{PictureFrame}
-use Rattle.jk_code.specs.RowsWritten.{IsStripe, WereGiven, HaveSameRows}
-use Rattle.jk_code.specs.ComingRows.{AreFalling, HaveRows}
-use Rattle.jk_code.proofs.PictureRows.{blank, joined, given_none, same_self, met_here, HasJoined, IsStep, stripe_step}
+use Rattle.jk_code.specs.RowsWritten.{WereGiven, HaveSameRows}
+use Rattle.jk_code.specs.ComingRows.{AreFalling, HaveGiven}
+use Rattle.jk_code.proofs.PictureRows.{blank, given_none, met_here}
 use Rattle.jk_code.proofs.coming.give_tiles.Goals as goal
 
 pub loop-y-init : goal.loop-y-init
@@ -18,91 +16,64 @@ loop-y-init g c = record {
   given = (blank c.args.coming.now.frame, given_none g.S.RowSupply.gave c.args.coming.now.frame c.args.rows.0 c.args.supply.now c.requires.coming.frame, λ r same. c.requires.fresh r);
 }
 
-pub give-requires-clause-order : goal.give-requires-clause-order
-give-requires-clause-order g c = subst (λ n. n < c.step_end.result) (sym c.loop-y.invariant.next) c.step_end.ensures.more
-
-pub give-requires-clause-inside : goal.give-requires-clause-inside
-give-requires-clause-inside g c =
-    let to = c.step_end.ensures.to in
-    let bottom = c.requires.end in
-    subst (λ (f : PictureFrame). c.step_end.result ≤ f.y0 + f.height) (sym c.loop-y.invariant.framed) (omega (arith, to, bottom))
-
-pub returns-in_err-stripe-clause-err : goal.returns-in_err-stripe-clause-err
-returns-in_err-stripe-clause-err g c =
+pub returns-in_err-give_next-clause-err : goal.returns-in_err-give_next-clause-err
+returns-in_err-give_next-clause-err g c =
     let same = err_from_is_err_and c.from_residual.result c.from_residual.ensures.1 in
-    rw (same.1, same.2)
-    (met_here g.S.RowSupply.gave g.S.RowSupply.met c.args.coming.now.frame c.args.rows.0 c.loop-y.y c.args.rows.1 c.args.supply.now c.loop-y.supply c.give.new.self c.loop-y.invariant.given.0 c.in_err-stripe.field-0.0
-    c.loop-y.invariant.low c.loop-y-test.true c.loop-y.invariant.given.1 c.in_err-stripe.ensures.met)
-
-pub give_stripe-requires : goal.give_stripe-requires
-give_stripe-requires g c =
-    let s = c.args.coming.now in
-    let f = s.frame in
-    let a = c.args.rows.0 in
-    let y = c.loop-y.y in
-    let z = c.step_end.result in
+    let e = c.in_err-give_next.field-0.0 in
     let now = c.loop-y.invariant in
-    let p = now.given.0 in
-    let v = c.in_ok-stripe.stripe in
+    rw (same.1, same.2)
+    (met_here g.S.RowSupply.gave g.S.RowSupply.met c.args.coming.now.frame c.args.rows.0 c.loop-y.y c.args.rows.1 c.args.supply.now c.loop-y.supply c.give_next.new.supply now.given.0 e now.low c.loop-y-test.true now.given.1 c.in_err-give_next.ensures.err)
+
+pub give_next-requires : goal.give_next-requires
+give_next-requires g c =
+    let s = c.args.coming.now in
+    let now = c.loop-y.invariant in
     let n = length c.args.tiles.now.items in
-    let low = now.low in let high = now.high in let top = c.requires.top in let bottom = c.requires.end in
+    let low = now.low in let top = c.requires.top in let bottom = c.requires.end in
     let more = c.step_end.ensures.more in let to = c.step_end.ensures.to in
-    let is : IsPicture v = subst IsPicture c.stripe.view_is c.stripe.invariant in
-    let own : IsStripe f y z v =
-    subst (λ m. IsStripe f m z v) now.next (subst (λ (x : PictureFrame). IsStripe x (g.S.RowSupply.next c.loop-y.supply) z v) now.framed c.in_ok-stripe.ensures.rows) in
-    let step : IsStep g.S.RowSupply.gave f a y z c.args.supply.now c.give.new.self p v =
-    stripe_step g.S.RowSupply.gave f a y z c.args.supply.now c.loop-y.supply c.give.new.self p v top low more (omega (arith, to, bottom)) now.given.1 is own c.in_ok-stripe.ensures.gave in
     let count = now.count in
     let whole = c.requires.whole in
-    let agrees = step.agrees (joined y p v) (same_self (joined y p v) a z) in
-    let end = step.end in
+    let next = now.next in
+    let upto : AreFalling s c.args.first n (g.S.RowSupply.next c.loop-y.supply) c.loop-y.tiles.items = subst (λ m. AreFalling s c.args.first n m c.loop-y.tiles.items) (sym next) now.tiles in
     record {
       coming = c.requires.coming;
-      picture = is;
       whole = omega (arith, whole, count);
-      tiles = subst (λ m. AreFalling s c.args.first m v.y0 c.loop-y.tiles.items) (sym count) (subst (λ m. AreFalling s c.args.first n m c.loop-y.tiles.items) (sym step.start) now.tiles);
-      stripe = step.stripe;
-      lower = λ k lt. (let bound = c.requires.lower k (omega (arith, lt, count)) in omega (arith, bound, end, to));
-      given = (joined y p v, step.given.picture, step.given.frame, agrees.stripe, subst (λ m. HaveRows s c.args.first m (joined y p v) c.loop-y.tiles.items) (sym count) (now.given.2 (joined y p v) agrees.before));
+      order = omega (arith, next, more);
+      end = omega (arith, to, bottom);
+      tiles = subst (λ m. AreFalling s c.args.first m (g.S.RowSupply.next c.loop-y.supply) c.loop-y.tiles.items) (sym count) upto;
+      lower = λ k lt. (let bound = c.requires.lower k (omega (arith, lt, count)) in omega (arith, bound, to));
+      framed = now.framed;
+      given = (
+        c.args.rows.0,
+        c.args.supply.now,
+        top,
+        omega (arith, low, next),
+        subst (λ m. HaveGiven g.S.RowSupply.gave s c.args.first m c.args.rows.0 (g.S.RowSupply.next c.loop-y.supply) c.args.supply.now c.loop-y.supply c.loop-y.tiles.items) (sym count)
+            (subst (λ m. HaveGiven g.S.RowSupply.gave s c.args.first n c.args.rows.0 m c.args.supply.now c.loop-y.supply c.loop-y.tiles.items) (sym next) now.given),
+      );
     }
 
 pub loop-y-preserved : goal.loop-y-preserved
 loop-y-preserved g c =
     let s = c.args.coming.now in
-    let f = s.frame in
-    let a = c.args.rows.0 in
-    let y = c.loop-y.y in
-    let z = c.step_end.result in
     let now = c.loop-y.invariant in
-    let p = now.given.0 in
-    let v = c.in_ok-stripe.stripe in
     let n = length c.args.tiles.now.items in
-    let low = now.low in let high = now.high in let top = c.requires.top in let bottom = c.requires.end in
+    let low = now.low in let top = c.requires.top in
     let more = c.step_end.ensures.more in let to = c.step_end.ensures.to in
-    let is : IsPicture v = subst IsPicture c.stripe.view_is c.stripe.invariant in
-    let own : IsStripe f y z v =
-    subst (λ m. IsStripe f m z v) now.next (subst (λ (x : PictureFrame). IsStripe x (g.S.RowSupply.next c.loop-y.supply) z v) now.framed c.in_ok-stripe.ensures.rows) in
-    let step : IsStep g.S.RowSupply.gave f a y z c.args.supply.now c.give.new.self p v =
-    stripe_step g.S.RowSupply.gave f a y z c.args.supply.now c.loop-y.supply c.give.new.self p v top low more (omega (arith, to, bottom)) now.given.1 is own c.in_ok-stripe.ensures.gave in
     let count = now.count in
-    let end = step.end in
-    let same : c.y0.result + c.height.result ≡ z = omega (arith, c.y0.ensures, c.height.ensures, end) in
+    let next = now.next in
+    let done = c.in_ok-give_next.ensures in
     record {
-      low = omega (arith, same, more, low);
-      high = omega (arith, same, to);
-      framed = c.in_ok-stripe.ensures.stays ∙ now.framed;
-      next = c.in_ok-stripe.ensures.next ∙ sym same;
-      count = c.in_ok-give_stripe.ensures.count ∙ count;
-      tiles = subst (λ m. AreFalling s c.args.first n m c.give_stripe.new.tiles.items) (end ∙ sym same) (subst (λ m. AreFalling s c.args.first m (v.y0 + v.height) c.give_stripe.new.tiles.items) count c.in_ok-give_stripe.ensures.tiles);
-      given = (
-        joined y p v,
-        subst (λ m. WereGiven g.S.RowSupply.gave f a m c.args.supply.now c.give.new.self (joined y p v)) (sym same) step.given,
-        λ r rows.
-            (let all : HaveSameRows (joined y p v) r a z = subst (λ m. HaveSameRows (joined y p v) r a m) same rows in
-            let agrees : HasJoined p v r a y z = step.agrees r all in
-            subst (λ m. HaveRows s c.args.first m r c.give_stripe.new.tiles.items) count
-            (c.in_ok-give_stripe.ensures.rows r (sym all.frame ∙ step.given.frame) agrees.stripe (subst (λ m. HaveRows s c.args.first m r c.loop-y.tiles.items) (sym count) (now.given.2 r agrees.before)))),
-      );
+      low = omega (arith, more, low);
+      high = to;
+      framed = done.stays;
+      next = done.next;
+      count = done.count ∙ count;
+      tiles = subst (λ m. AreFalling s c.args.first m c.step_end.result c.give_next.new.tiles.items) count done.tiles;
+      given = subst (λ m. HaveGiven g.S.RowSupply.gave s c.args.first m c.args.rows.0 c.step_end.result c.args.supply.now c.give_next.new.supply c.give_next.new.tiles.items) count
+          (done.given.more c.args.rows.0 c.args.supply.now top (omega (arith, low, next))
+          (subst (λ m. HaveGiven g.S.RowSupply.gave s c.args.first m c.args.rows.0 (g.S.RowSupply.next c.loop-y.supply) c.args.supply.now c.loop-y.supply c.loop-y.tiles.items) (sym count)
+          (subst (λ m. HaveGiven g.S.RowSupply.gave s c.args.first n c.args.rows.0 m c.args.supply.now c.loop-y.supply c.loop-y.tiles.items) (sym next) now.given)));
     }
 
 -- behind the last row

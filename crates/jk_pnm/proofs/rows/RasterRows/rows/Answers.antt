@@ -2,7 +2,8 @@ use Rattle.std.proofs.Common.{◌-◌, ◌≤◌, sym, subst, arith}
 use Rattle.jk_math.specs.Answer.{Answers}
 use Rattle.jk_math.specs.Steps.{answers_same}
 use Rattle.jk_pnm.specs.RasterRows.{Drawing, rows_told}
-use Rattle.jk_pnm.proofs.RowLaws.{rows_inside, rows_whole, rows_read, rows_are, rows_refused, with_rows, bytes_of_rows}
+use Rattle.jk_pnm.proofs.RowLaws.{rows_inside, rows_whole, rows_read, rows_are, rows_refused, bytes_of_rows}
+use Rattle.jk_pnm.specs.Heads.{with_rows}
 use Rattle.jk_pnm.specs.Reading.{picture_at}
 use Rattle.jk_pnm.proofs.rows.RasterRows.rows.Goals as goal
 

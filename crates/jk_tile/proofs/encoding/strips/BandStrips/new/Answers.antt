@@ -13,8 +13,10 @@ returns-clause-holds c =
     let b : BandStrips = record {
       resolution = c.args.r;
       band = c.args.i;
+      top = c.band-area.result.y0;
+      waiting = c.new.result;
       area = record { x0 = c.band-area.result.x0; y0 = c.band-area.result.y0; x1 = c.band-area.result.x1; y1 = c.band-area.result.y0 };
-      strip = c.new.result;
+      strip = c.new-2.result;
       blocks = c.add_lists.new.lists;
       bits = 0;
     } in
@@ -24,7 +26,9 @@ returns-clause-holds c =
       own = band_given s b c.rect-rect.result c.band-area.result c.coding-coding.result.now c.orientation.result c.requires.i c.rect-rect.ensures.value c.coding-coding.ensures.value c.orientation.ensures c.band-area.ensures.value;
       bounds = c.band-area.ensures.area;
       rows = refl;
-      strip = c.new.ensures.items;
+      top = refl;
+      waiting = c.new.ensures.items;
+      strip = c.new-2.ensures.items;
       blocks = c.in_ok-add_lists.ensures.lists ∙ ap (λ (l : List (Vec Layered)). lists_of l ++ replicate (c.precinct_count-across.result.0 * c.precinct_count-across.result.1) []) c.new-blocks.ensures.items;
       number = count_of c.rect-rect.result s.rect c.coding-coding.result.now s.coding c.args.r c.precinct_count-across.result.0 c.precinct_count-across.result.1 c.rect-rect.ensures.value c.coding-coding.ensures.value c.precinct_count-across.ensures.across c.precinct_count-across.ensures.down;
       bits = refl;
@@ -36,8 +40,10 @@ returns-clause-rows c f =
     let b : BandStrips = record {
       resolution = c.args.r;
       band = c.args.i;
+      top = c.band-area.result.y0;
+      waiting = c.new.result;
       area = record { x0 = c.band-area.result.x0; y0 = c.band-area.result.y0; x1 = c.band-area.result.x1; y1 = c.band-area.result.y0 };
-      strip = c.new.result;
+      strip = c.new-2.result;
       blocks = c.add_lists.new.lists;
       bits = 0;
     } in
@@ -47,7 +53,9 @@ returns-clause-rows c f =
       own = band_given s b c.rect-rect.result c.band-area.result c.coding-coding.result.now c.orientation.result c.requires.i c.rect-rect.ensures.value c.coding-coding.ensures.value c.orientation.ensures c.band-area.ensures.value;
       bounds = c.band-area.ensures.area;
       rows = refl;
-      strip = c.new.ensures.items;
+      top = refl;
+      waiting = c.new.ensures.items;
+      strip = c.new-2.ensures.items;
       blocks = c.in_ok-add_lists.ensures.lists ∙ ap (λ (l : List (Vec Layered)). lists_of l ++ replicate (c.precinct_count-across.result.0 * c.precinct_count-across.result.1) []) c.new-blocks.ensures.items;
       number = count_of c.rect-rect.result s.rect c.coding-coding.result.now s.coding c.args.r c.precinct_count-across.result.0 c.precinct_count-across.result.1 c.rect-rect.ensures.value c.coding-coding.ensures.value c.precinct_count-across.ensures.across c.precinct_count-across.ensures.down;
       bits = refl;

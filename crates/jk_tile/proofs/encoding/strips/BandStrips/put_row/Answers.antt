@@ -3,13 +3,13 @@ use Rattle.jk_wave.proofs.ColumnRows.{on_done}
 use Rattle.jk_tile.proofs.encoding.Waiting.{longer_holds, longer_rows}
 use Rattle.jk_tile.proofs.encoding.strips.BandStrips.put_row.Goals as goal
 
-pub code_complete-requires-clause-holds : goal.code_complete-requires-clause-holds
-code_complete-requires-clause-holds c =
+pub complete-requires-clause-holds : goal.complete-requires-clause-holds
+complete-requires-clause-holds c =
     longer_holds c.args.source.now c.args.self.now _ c.args.row.now c.top_bits.result c.requires.holds c.requires.inside c.requires.long c.top_bits.ensures.planes c.top_bits.ensures.few
-    (record { resolution = refl; band = refl; area = refl; bits = c.max-self.ensures; strip = c.in_ok-extend_from_slice.ensures.items; blocks = refl })
+    (record { resolution = refl; band = refl; area = refl; bits = c.max-self.ensures; strip = c.in_ok-extend_from_slice.ensures.items; blocks = refl; top = refl; waiting = refl })
 
 pub returns-clause-rows : goal.returns-clause-rows
 returns-clause-rows c =
-    on_done c.code_complete.result (λ keeps f has rows. keeps f
+    on_done c.complete.result (λ keeps f has rows. keeps f
     (longer_rows c.args.source.now f c.args.self.now _ c.args.row.now c.top_bits.result c.requires.holds.0 c.top_bits.ensures.planes
-    (record { resolution = refl; band = refl; area = refl; bits = c.max-self.ensures; strip = c.in_ok-extend_from_slice.ensures.items; blocks = refl }) rows has)) c.code_complete.ensures.rows
+    (record { resolution = refl; band = refl; area = refl; bits = c.max-self.ensures; strip = c.in_ok-extend_from_slice.ensures.items; blocks = refl; top = refl; waiting = refl }) rows has)) c.complete.ensures.rows

@@ -1,0 +1,181 @@
+//! Running `jk encode`.
+
+use crate::failure::{Failure, of_options};
+use crate::keeping;
+use crate::streams::{close, create, finish, open, read, write};
+use crate::workers::workers;
+use crate::world::World;
+use jk_commands::{
+    Plan, encode_file_dressed, encode_file_dressed_with, encode_file_into, encode_file_with,
+    encode_rows_from, judge,
+};
+use jk_math::Fault;
+use jk_words::{Encoding, Work};
+use std::alloc::Global;
+
+/// How many components the image of a PGM or PPM file has.
+fn components_in(pixels: &[u8]) -> u16 {
+    if pixels.starts_with(b"P6") { 3 } else { 1 }
+}
+
+/// The whole file of an image that is to keep something beside the samples, which is then written.
+fn encode_dressed<W: World>(
+    alloc: Global,
+    world: &mut W,
+    line: &Encoding<'_>,
+    workers: usize,
+    plan: Plan,
+) -> Result<(), Failure> {
+    keeping::check_container(alloc, &line.options)?;
+    let extras = keeping::asked(alloc, world, &line.kept)?;
+    let bytes = read(alloc, world, line.input)?;
+    let components = components_in(&bytes);
+    world.begin_work(Work::Encoding, Some(bytes.len() as u64));
+    let encoded = if workers > 1 {
+        encode_file_dressed_with::<W::Runtime, W::Counter>(
+            world.runtime(),
+            alloc,
+            workers,
+            world.counter(),
+            bytes,
+            plan,
+            &extras,
+        )
+    } else {
+        encode_file_dressed(alloc, bytes, plan, &extras)
+    };
+    world.end_work();
+    match encoded {
+        Ok(file) => write(alloc, world, line.output, &file),
+        Err(fault) => Err(keeping::of_encoding(alloc, fault, &extras, components, &line.options)),
+    }
+}
+
+/// Ends an output, which is whole where its image was encoded.
+fn end_output<W: World>(
+    alloc: Global,
+    world: &mut W,
+    line: &Encoding<'_>,
+    output: W::Output,
+    encoded: Result<(), Fault>,
+) -> Result<(), Failure> {
+    let finished = finish(alloc, world, line.output, output, encoded.is_ok());
+    match encoded {
+        Ok(()) => finished,
+        Err(Fault::Shelf) => finished.and(Err(Failure::from(Fault::Shelf))),
+        Err(fault) => Err(of_options(alloc, fault, &line.options)),
+    }
+}
+
+/// Encodes the whole image of a file by this thread, tile by tile.
+fn encode_whole<W: World>(
+    alloc: Global,
+    world: &mut W,
+    line: &Encoding<'_>,
+    plan: Plan,
+) -> Result<(), Failure> {
+    let bytes = read(alloc, world, line.input)?;
+    let mut output = create(alloc, world, line.output, false)?;
+    world.begin_work(Work::Encoding, Some(bytes.len() as u64));
+    let encoded = encode_file_into(alloc, bytes, plan, &mut output);
+    world.end_work();
+    end_output(alloc, world, line, output, encoded)
+}
+
+/// Encodes the whole image of a file by several workers, and then writes it.
+fn encode_whole_by<W: World>(
+    alloc: Global,
+    world: &mut W,
+    line: &Encoding<'_>,
+    workers: usize,
+    plan: Plan,
+) -> Result<(), Failure> {
+    let bytes = read(alloc, world, line.input)?;
+    world.begin_work(Work::Encoding, Some(bytes.len() as u64));
+    let encoded = encode_file_with::<W::Runtime, W::Counter>(
+        world.runtime(),
+        alloc,
+        workers,
+        world.counter(),
+        bytes,
+        plan,
+    );
+    world.end_work();
+    match encoded {
+        Ok(file) => write(alloc, world, line.output, &file),
+        Err(fault) => Err(of_options(alloc, fault, &line.options)),
+    }
+}
+
+/// Encodes the image of a file of so many bytes, if it is known how many, as it is read row by row. A
+/// read that was refused is told before all else.
+fn encode_read<W: World>(
+    alloc: Global,
+    world: &mut W,
+    line: &Encoding<'_>,
+    workers: usize,
+    plan: Plan,
+    size: Option<u64>,
+) -> Result<(), Failure> {
+    let mut input = open(alloc, world, line.input)?;
+    let mut output = create(alloc, world, line.output, false)?;
+    world.begin_work(Work::Encoding, size);
+    let encoded = encode_rows_from(
+        world.runtime(),
+        alloc,
+        workers,
+        world.counter(),
+        &mut input,
+        plan,
+        &mut output,
+    );
+    world.end_work();
+    match close(alloc, world, line.input, input) {
+        Ok(()) => end_output(alloc, world, line, output, encoded),
+        Err(failure) => {
+            let _ = finish(alloc, world, line.output, output, false);
+            Err(failure)
+        }
+    }
+}
+
+/// How many bytes a file has at least whose image one worker encodes row by row, where it isn't cut
+/// into tiles: the whole image of a smaller one takes little memory, and less time where rows are short.
+const SOME_BYTES: u64 = 1 << 20;
+
+/// The same for several workers, who have a smaller one's whole image encoded up to an eighth sooner.
+const MANY_BYTES: u64 = 1 << 26;
+
+/// Whether so many workers encode the image of a file of so many bytes, if it is known how many, whole.
+fn is_whole(size: Option<u64>, workers: usize, plan: &Plan) -> bool {
+    let least = if workers > 1 { MANY_BYTES } else { SOME_BYTES };
+    match size {
+        Some(size) => size < least && plan.parameters.tile.is_none(),
+        None => false,
+    }
+}
+
+/// `jk encode IN OUT`: how many workers there are, the options, what the file is to keep, then the
+/// input, the output, the image and its encoding.
+pub(crate) fn encode<W: World>(
+    alloc: Global,
+    world: &mut W,
+    line: &Encoding<'_>,
+) -> Result<(), Failure> {
+    let workers = workers(alloc, line.workers)?;
+    let plan = match judge(alloc, &line.options) {
+        Ok(plan) => plan,
+        Err(fault) => return Err(of_options(alloc, fault, &line.options)),
+    };
+    if !line.kept.is_none() {
+        return encode_dressed(alloc, world, line, workers, plan);
+    }
+    let size = world.size(line.input);
+    if !is_whole(size, workers, &plan) {
+        return encode_read(alloc, world, line, workers, plan, size);
+    }
+    if workers > 1 {
+        return encode_whole_by(alloc, world, line, workers, plan);
+    }
+    encode_whole(alloc, world, line, plan)
+}

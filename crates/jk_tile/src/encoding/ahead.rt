@@ -1,0 +1,302 @@
+//! Code-blocks that workers code side by side, before the rows of code-blocks are coded in which they
+//! stand. What was coded of one is taken for another only where both have the same values, so that
+//! nothing rests on which of them were coded before.
+
+ghost use Rattle.std.specs.Prelude.{◌≡◌, ◌+◌, ◌<◌, ◌≤◌, ℤ, List, All, IsTrue, IfSome, IfOk, IfErr, OnOk, length, map, take, drop, reverse};
+ghost use Rattle.std.specs.List.{flat_map};
+ghost use Rattle.jk_math.specs.Lists.{lists_of};
+ghost use Rattle.jk_math.specs.Memory.{IsMemory};
+ghost use Rattle.jk_block.specs.CodedBlocks.{shape_of};
+ghost use Rattle.jk_tile.specs.encoding.Ahead.{IsCodable, layered_block, AreUncoded, IsCodedAhead, IsGroup, AreGroupsOf};
+
+use crate::encoding::tables::LayeredBlock;
+use crate::workers::Workers;
+use jk_block::{Block, code};
+use jk_jobs::{Gate, Work, map_jobs};
+use jk_math::Fault;
+use std::alloc::Global;
+use std::marker::Sync;
+use std::thread::Threads;
+
+/// How many coefficients the code-blocks of a job have together, as far as they are small: as many as
+/// the largest code-block has.
+const COEFFICIENTS: usize = 4096;
+
+/// Code-blocks that are to be coded and cut into so many layers, and how many rows of them each
+/// sub-band has.
+#[derive(Drop)]
+pub struct UncodedBlocks {
+    pub(crate) layers: u16,
+    pub(crate) blocks: Vec<Block>,
+    pub(crate) rows: Vec<usize>,
+}
+
+/// Code-blocks that were coded, what was coded of each, and how many rows of them each sub-band has.
+/// The first of each list stands at its end.
+#[derive(Drop)]
+pub struct CodedBlocks {
+    pub(crate) layers: u16,
+    pub(crate) blocks: Vec<Block>,
+    pub(crate) coded: Vec<LayeredBlock>,
+    pub(crate) rows: Vec<usize>,
+}
+
+/// A code-block that was coded, and what was coded of it.
+#[derive(Drop)]
+struct CodedPair {
+    block: Block,
+    coded: LayeredBlock,
+}
+
+/// Code-blocks that are one job: a large one, or several small ones.
+#[derive(Clone, Copy)]
+pub(crate) struct GroupJob<'a> {
+    pub(crate) layers: u16,
+    pub(crate) blocks: &'a [Block],
+}
+
+/// Each code-block of a group is coded and cut into layers.
+impl<'a> Work for GroupJob<'a> {
+    ghost use Rattle.jk_tile.specs.encoding.Ahead.{IsGroup, IsGroupCoded};
+
+    type Job = GroupJob<'a>;
+
+    type Done = Vec<LayeredBlock>;
+
+    ghost accepts = { IsGroup };
+
+    ghost gives = { IsGroupCoded };
+
+    fn done(alloc: Global, job: &GroupJob<'a>) -> Result<Vec<LayeredBlock>, Fault> {
+        code_group(alloc, job.layers, job.blocks)
+    }
+}
+
+/// Codes a code-block and cuts it into layers.
+fn code_block(alloc: Global, block: &Block, layers: u16) -> Result<LayeredBlock, Fault>
+    requires { IsCodable block.now }
+    ensures value { IfOk result (λ k. k ≡ layered_block layers block.now) }
+    ensures memory { IfErr result IsMemory }
+{
+    let coded = code(alloc, block)?;
+    LayeredBlock::new(alloc, coded, layers)
+}
+
+/// Codes code-blocks one after another.
+fn code_group(alloc: Global, layers: u16, blocks: &[Block]) -> Result<Vec<LayeredBlock>, Fault>
+    requires { All IsCodable blocks.now }
+    ensures value { IfOk result (λ v. v.items ≡ map (layered_block layers) blocks.now) }
+    ensures memory { IfErr result IsMemory }
+{
+    let mut coded = Vec::with_capacity(alloc, blocks.len())?;
+    for index in 0..blocks.len() {
+        coded.push(code_block(alloc, &blocks[index], layers)?)?;
+    }
+    Ok(coded)
+}
+
+/// How many code-blocks the group has that begins with code-block `from`.
+fn group_size(blocks: &[Block], from: usize) -> usize
+    requires { from < length blocks.now }
+    ensures some { 0 < result }
+    ensures inside { from + result ≤ length blocks.now }
+{
+    let count = COEFFICIENTS / blocks[from].values.len().max(1);
+    count.max(1).min(blocks.len() - from)
+}
+
+/// Some of the code-blocks.
+fn part(blocks: &[Block], from: usize, count: usize) -> &[Block]
+    requires { from + count ≤ length blocks.now }
+    ensures { result.now ≡ take count (drop from blocks.now) }
+{
+    &blocks[from..from + count]
+}
+
+/// The code-blocks in groups.
+fn groups<'a>(alloc: Global, layers: u16, blocks: &'a [Block]) -> Result<Vec<GroupJob<'a>>, Fault>
+    requires { All IsCodable blocks.now }
+    ensures groups { IfOk result (λ v. AreGroupsOf layers blocks.now v.items) }
+    ensures memory { IfErr result IsMemory }
+{
+    let mut jobs = Vec::new(alloc);
+    let mut from = 0;
+    while from < blocks.len() {
+        let count = group_size(blocks, from);
+        jobs.push(GroupJob {
+            layers,
+            blocks: part(blocks, from, count),
+        })?;
+        from += count;
+    }
+    Ok(jobs)
+}
+
+/// What was coded of all groups, one behind another, the last one first.
+fn joined(
+    alloc: Global,
+    count: usize,
+    lists: Vec<Vec<LayeredBlock>>,
+) -> Result<Vec<LayeredBlock>, Fault>
+    ensures value { IfOk result (λ v. v.items ≡ reverse (flat_map (λ own. own) (lists_of lists.items))) }
+    ensures memory { IfErr result IsMemory }
+{
+    let mut coded = Vec::with_capacity(alloc, count)?;
+    for list in lists {
+        let mut own = list;
+        coded.append(&mut own)?;
+    }
+    coded.reverse();
+    Ok(coded)
+}
+
+/// What is coded of code-blocks side by side by workers, the last one first.
+fn coded_lists<R: Threads + Sync, G: Gate + Sync>(
+    workers: &Workers<'_, R>,
+    alloc: Global,
+    gate: &G,
+    layers: u16,
+    blocks: &[Block],
+) -> Result<Vec<LayeredBlock>, Fault>
+    requires { All IsCodable blocks.now }
+    ensures { IfOk result (λ v. v.items ≡ reverse (map (layered_block layers) blocks.now)) }
+{
+    let jobs = groups(alloc, layers, blocks)?;
+    let lists = map_jobs::<GroupJob<'_>, R, G>(workers.rt, alloc, workers.count, gate, &jobs)?;
+    joined(alloc, blocks.len(), lists)
+}
+
+/// Codes code-blocks side by side by workers. Where memory is refused none is coded, which then are
+/// coded with their rows.
+///
+/// `gate` is told of each job, when it begins and when it has ended: of each code-block, or of some
+/// small ones together.
+pub fn code_blocks<R: Threads + Sync, G: Gate + Sync>(
+    workers: &Workers<'_, R>,
+    alloc: Global,
+    gate: &G,
+    uncoded: UncodedBlocks,
+) -> CodedBlocks
+    requires { AreUncoded uncoded }
+    ensures { IsCodedAhead result }
+{
+    let layers = uncoded.layers;
+    let mut rows = uncoded.rows;
+    rows.reverse();
+    match coded_lists::<R, G>(workers, alloc, gate, layers, &uncoded.blocks) {
+        Ok(coded) => {
+            let mut blocks = uncoded.blocks;
+            blocks.reverse();
+            CodedBlocks {
+                layers,
+                blocks,
+                coded,
+                rows,
+            }
+        }
+        Err(_) => CodedBlocks {
+            layers,
+            blocks: Vec::new(alloc),
+            coded: Vec::new(alloc),
+            rows,
+        },
+    }
+}
+
+/// Whether two lists of coefficients are the same.
+fn are_same(one: &[i32], other: &[i32]) -> bool
+    ensures { IsTrue result → one.now ≡ other.now }
+{
+    if one.len() != other.len() {
+        return false;
+    }
+    for index in 0..one.len() {
+        if one[index] != other[index] {
+            return false;
+        }
+    }
+    true
+}
+
+/// Whether two code-blocks have the same shape and coefficients.
+fn is_same(one: &Block, other: &Block) -> bool
+    ensures shape { IsTrue result → shape_of one.now ≡ shape_of other.now }
+    ensures values { IsTrue result → one.now.values.items ≡ other.now.values.items }
+{
+    one.width == other.width
+        && one.height == other.height
+        && one.orientation == other.orientation
+        && one.style == other.style
+        && are_same(&one.values, &other.values)
+}
+
+impl UncodedBlocks {
+    /// No code-block, for so many layers.
+    pub fn new(alloc: Global, layers: u16) -> UncodedBlocks
+        ensures { AreUncoded result }
+    {
+        UncodedBlocks {
+            layers,
+            blocks: Vec::new(alloc),
+            rows: Vec::new(alloc),
+        }
+    }
+}
+
+impl CodedBlocks {
+    /// No code-block.
+    pub fn none(alloc: Global) -> CodedBlocks
+        ensures { IsCodedAhead result }
+    {
+        CodedBlocks {
+            layers: 0,
+            blocks: Vec::new(alloc),
+            coded: Vec::new(alloc),
+            rows: Vec::new(alloc),
+        }
+    }
+
+    /// How many rows of code-blocks the next sub-band has.
+    pub(crate) fn next_rows(&mut self) -> usize
+        requires ahead { IsCodedAhead self.old }
+        ensures ahead { IsCodedAhead self.new }
+    {
+        self.rows.pop().unwrap_or(0)
+    }
+
+    /// The next code-block, and what was coded of it.
+    fn next(&mut self) -> Option<CodedPair>
+        requires ahead { IsCodedAhead self.old }
+        ensures ahead { IsCodedAhead self.new }
+        ensures value { IfSome result (λ p. p.coded ≡ layered_block self.old.layers p.block) }
+        ensures layers { self.new.layers ≡ self.old.layers }
+    {
+        match (self.blocks.pop(), self.coded.pop()) {
+            (Some(block), Some(coded)) => Some(CodedPair { block, coded }),
+            _ => None,
+        }
+    }
+
+    /// A code-block cut into so many layers: what was coded before, where the next one is the same, or
+    /// what is coded now.
+    pub(crate) fn layered(
+        &mut self,
+        alloc: Global,
+        block: &Block,
+        layers: u16,
+    ) -> Result<LayeredBlock, Fault>
+        requires ahead { IsCodedAhead self.old }
+        requires block { IsCodable block.now }
+        ensures ahead { IsCodedAhead self.new }
+        ensures value { IfOk result (λ k. k ≡ layered_block layers block.now) }
+        ensures memory { IfErr result IsMemory }
+    {
+        let own = self.layers;
+        if let Some(next) = self.next() {
+            if own == layers && is_same(&next.block, block) {
+                return Ok(next.coded);
+            }
+        }
+        code_block(alloc, block, layers)
+    }
+}
