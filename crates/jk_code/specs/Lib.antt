@@ -23,4 +23,5 @@ pub mod DataTold
 pub mod Contents
 pub mod RowsWritten
 pub mod ComingRows
+pub mod TeamWork
 pub mod TablesTold

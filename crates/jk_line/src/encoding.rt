@@ -139,18 +139,14 @@ fn encode_read<W: World>(
     }
 }
 
-/// How many bytes a file has at least whose image one worker encodes row by row, where it isn't cut
-/// into tiles: the whole image of a smaller one takes little memory, and less time where rows are short.
+/// How many bytes a file has at least whose image is encoded row by row, where it isn't cut into tiles:
+/// the whole image of a smaller one takes little memory, and less time where rows are short.
 const SOME_BYTES: u64 = 1 << 20;
 
-/// The same for several workers, who have a smaller one's whole image encoded up to an eighth sooner.
-const MANY_BYTES: u64 = 1 << 26;
-
-/// Whether so many workers encode the image of a file of so many bytes, if it is known how many, whole.
-fn is_whole(size: Option<u64>, workers: usize, plan: &Plan) -> bool {
-    let least = if workers > 1 { MANY_BYTES } else { SOME_BYTES };
+/// Whether the image of a file of so many bytes, if it is known how many, is encoded whole.
+fn is_whole(size: Option<u64>, plan: &Plan) -> bool {
     match size {
-        Some(size) => size < least && plan.parameters.tile.is_none(),
+        Some(size) => size < SOME_BYTES && plan.parameters.tile.is_none(),
         None => false,
     }
 }
@@ -171,7 +167,7 @@ pub(crate) fn encode<W: World>(
         return encode_dressed(alloc, world, line, workers, plan);
     }
     let size = world.size(line.input);
-    if !is_whole(size, workers, &plan) {
+    if !is_whole(size, &plan) {
         return encode_read(alloc, world, line, workers, plan, size);
     }
     if workers > 1 {

@@ -128,7 +128,7 @@ static SIZES: [(usize, &str, usize); 6] = [
     (1_048_575, "", 0),
     (1_048_575, "--workers 2", 0),
     (1_048_576, "", 1),
-    (1_048_576, "--workers 2", 0),
+    (1_048_576, "--workers 2", 1),
     (100, "--tile-width 1 --tile-height 1", 1),
     (100, "--tile-width 1 --tile-height 1 --workers 2", 1),
 ];

@@ -13,6 +13,7 @@ use jk_tile::Workers;
 use std::alloc::Global;
 use std::marker::Sync;
 use std::process::Abort;
+use std::sync::atomic::{AtomicUsize, Ordering};
 use std::test::Fail;
 use std::thread::Threads;
 use vectors::{Meeting, equal, equal_at};
@@ -129,5 +130,40 @@ fn two_code_blocks_coded_at_a_time(rt: HostRuntime) -> Result<(), Fail> {
     equal(told, due.0).expect(&rt, "what is due");
     equal(bytes.as_slice(), due.1.as_slice()).expect(&rt, "the file");
     equal(held.meeting.was_met(1), true).expect(&rt, "the meeting");
+    Ok(())
+}
+
+/// A gate that counts the code-blocks of which it is told.
+#[derive(Drop)]
+struct Counted {
+    begun: AtomicUsize,
+}
+
+impl Gate for Counted {
+    fn began(&self, _job: usize) {
+        self.begun.fetch_add(1, Ordering::SeqCst);
+    }
+
+    fn ended(&self, _job: usize) {}
+}
+
+/// Workers code each code-block once, also where it waits while those of several stripes are coded.
+#[test]
+fn each_code_block_is_coded_once(rt: HostRuntime) -> Result<(), Fail> {
+    let alloc = rt.alloc();
+    let mut chance = Chance { state: 79 };
+    let mut planes = Vec::new(alloc);
+    planes.push(plane(alloc, &mut chance, 128 * 256, 8, false)?)?;
+    let image = Image::new(0, 0, 128, 256, 8, false, planes)?;
+    let given = with_levels(alloc, 0);
+    let workers = Workers { rt: &rt, count: 2 };
+    let counted = Counted {
+        begun: AtomicUsize::new(0),
+    };
+    let due = whole(alloc, &image, &given);
+    let (told, bytes) = written_by(&workers, alloc, &counted, &image, &given, 32, u32::MAX);
+    equal(told, due.0).expect(&rt, "what is due");
+    equal(bytes.as_slice(), due.1.as_slice()).expect(&rt, "the file");
+    equal(counted.begun.load(Ordering::SeqCst), 8).expect(&rt, "the code-blocks");
     Ok(())
 }

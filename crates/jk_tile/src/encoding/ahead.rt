@@ -95,14 +95,23 @@ fn code_group(alloc: Global, layers: u16, blocks: &[Block]) -> Result<Vec<Layere
     Ok(coded)
 }
 
-/// How many code-blocks the group has that begins with code-block `from`.
+/// How many code-blocks the group has that begins with code-block `from`: one, and those behind it as
+/// long as together they have no more coefficients than a group may.
 fn group_size(blocks: &[Block], from: usize) -> usize
     requires { from < length blocks.now }
     ensures some { 0 < result }
     ensures inside { from + result ≤ length blocks.now }
 {
-    let count = COEFFICIENTS / blocks[from].values.len().max(1);
-    count.max(1).min(blocks.len() - from)
+    let mut count = 1;
+    let mut held = blocks[from].values.len();
+    while count < blocks.len() - from {
+        held = held.saturating_add(blocks[from + count].values.len());
+        if held > COEFFICIENTS {
+            return count;
+        }
+        count += 1;
+    }
+    count
 }
 
 /// Some of the code-blocks.
@@ -240,6 +249,24 @@ impl UncodedBlocks {
             blocks: Vec::new(alloc),
             rows: Vec::new(alloc),
         }
+    }
+
+    /// How many rows of code-blocks are listed of each sub-band.
+    pub fn counts(&self, alloc: Global) -> Result<Vec<usize>, Fault>
+        ensures { IfErr result IsMemory }
+    {
+        let mut counts = Vec::new(alloc);
+        counts.extend_from_slice(&self.rows)?;
+        Ok(counts)
+    }
+
+    /// How many rows of code-blocks the next sub-band has in a list of such numbers.
+    pub(crate) fn next_of(&self, counts: &[usize]) -> usize {
+        let index = self.rows.len();
+        if index < counts.len() {
+            return counts[index];
+        }
+        0
     }
 }
 

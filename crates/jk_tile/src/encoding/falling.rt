@@ -227,11 +227,13 @@ impl FallingComponent {
         Ok(())
     }
 
-    /// Lists the code-blocks that wait, of which no row is missing. Memory is the only fault.
+    /// Lists the code-blocks that wait, of which no row is missing, behind those that were listed
+    /// before. Memory is the only fault.
     pub fn list_waiting(
         &self,
         alloc: Global,
         source: &WrittenComponent<'_>,
+        before: &[usize],
         uncoded: &mut UncodedBlocks,
     ) -> Result<(), Fault>
         requires standing { IsStanding source.now self.now }
@@ -240,7 +242,7 @@ impl FallingComponent {
         ensures memory { IfErr result IsMemory }
     {
         for b in 0..self.bands.len() {
-            self.bands[b].list_waiting(alloc, source, uncoded)?;
+            self.bands[b].list_waiting(alloc, source, before, uncoded)?;
         }
         Ok(())
     }

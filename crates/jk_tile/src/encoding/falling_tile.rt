@@ -101,11 +101,14 @@ impl FallingTile {
         Ok(())
     }
 
-    /// Lists the code-blocks that wait, of which no row is missing. Memory is the only fault.
+    /// Lists the code-blocks that wait, of which no row is missing, behind those that were listed before
+    /// and aren't coded yet: `before` has how many rows of them each sub-band has there, as
+    /// [`UncodedBlocks::counts`] gives it, or is empty. Memory is the only fault.
     pub fn list_waiting(
         &self,
         alloc: Global,
         source: &WrittenComponent<'_>,
+        before: &[usize],
         uncoded: &mut UncodedBlocks,
     ) -> Result<(), Fault>
         requires standing { IsStandingTile source.now self.now }
@@ -114,7 +117,7 @@ impl FallingTile {
         ensures memory { IfErr result IsMemory }
     {
         for c in 0..self.components.len() {
-            self.components[c].list_waiting(alloc, source, uncoded)?;
+            self.components[c].list_waiting(alloc, source, before, uncoded)?;
         }
         Ok(())
     }

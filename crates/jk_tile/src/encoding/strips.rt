@@ -246,11 +246,13 @@ impl BandStrips {
         self.code_rows(alloc, source, count, ahead)
     }
 
-    /// Lists the code-blocks of the rows of them that wait, and how many such rows there are.
+    /// Lists the code-blocks of the rows of them that wait behind those that were listed before, and how
+    /// many such rows there are.
     pub(crate) fn list_waiting(
         &self,
         alloc: Global,
         source: &WrittenComponent<'_>,
+        before: &[usize],
         uncoded: &mut UncodedBlocks,
     ) -> Result<(), Fault>
         requires holds { IsBetweenRows source.now self.now }
@@ -258,7 +260,8 @@ impl BandStrips {
         ensures uncoded { OnOk result (AreUncoded uncoded.new) }
         ensures memory { IfErr result IsMemory }
     {
-        for index in 0..self.waiting.len() {
+        let listed = uncoded.next_of(before);
+        for index in listed..self.waiting.len() {
             let row = &self.waiting[index];
             let strip = Strip {
                 resolution: self.resolution,
@@ -268,7 +271,9 @@ impl BandStrips {
             };
             list_strip(alloc, source, strip, uncoded)?;
         }
-        uncoded.rows.push(self.waiting.len())?;
+        uncoded
+            .rows
+            .push(self.waiting.len().saturating_sub(listed))?;
         Ok(())
     }
 
