@@ -83,6 +83,11 @@ impl<N: Finder + Drop> Opener<N> {
         for name in names {
             waiting.add(name)?;
         }
+        let fault = if passed.is_empty() {
+            None
+        } else {
+            Some(Fault::Shelf)
+        };
         let mut told = BTreeMap::new(alloc);
         for name in passed {
             let stamp = finder.stamp(alloc, name.as_str());
@@ -101,7 +106,7 @@ impl<N: Finder + Drop> Opener<N> {
             is_unlisted: false,
             is_full: false,
             is_opened: false,
-            fault: None,
+            fault,
         })
     }
 
@@ -109,8 +114,9 @@ impl<N: Finder + Drop> Opener<N> {
     /// Between two files what the operator asks is done. Where the folder is watched, it is listed
     /// again and again, and it goes on until serving has ended; else until none waits.
     ///
-    /// Memory: the names can't be held. Else the first of these that was told: Shelf for a file that
-    /// can't be read, Limit for one that is listed by no more than 4,096, Memory for one.
+    /// Memory: the names can't be held. Else the first of these that was told: Shelf for what can't be
+    /// opened as a file, or for a file that can't be read, Limit for one that is listed by no more than
+    /// 4,096, Memory for one.
     pub(crate) fn run<R: Wait + Clock, S: Shelf, K: Keeper<S>>(
         &mut self,
         rt: &R,

@@ -137,8 +137,8 @@ fn own<R: Wait + Clock + Eprint, S: Shelf, K: Keeper<S>, N: Finder + Drop>(
 pub struct Ends {
     /// How many connections were attended to.
     pub served: Result<u64, Fault>,
-    /// Shelf: a file couldn't be read. Limit: there are more images than 4,096. Memory: it was
-    /// refused.
+    /// Shelf: what stands under a name couldn't be opened as a file, or a file couldn't be read.
+    /// Limit: there are more images than 4,096. Memory: it was refused.
     pub opened: Result<(), Fault>,
     /// As of `operate`.
     pub operated: Result<(), Fault>,
