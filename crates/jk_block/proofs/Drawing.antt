@@ -1,5 +1,5 @@
 -- What words show as the fields of a draft.
-use Rattle.std.proofs.Common.{◌≡◌, ℕ, zero, suc, ◌+◌, ◌*◌, ◌/◌, ◌%◌, ◌^◌, ◌<◌, ◌≤◌, Bool, true, false, cond, refl, sym, ap, ◌∙◌, subst, inl, inr, replicate, get_or, arith}
+use Rattle.std.proofs.Common.{◌≡◌, ℕ, zero, suc, ◌+◌, ◌*◌, ◌/◌, ◌%◌, ◌^◌, ◌<◌, ◌≤◌, Bool, true, false, cond, refl, sym, ap, ◌∙◌, subst, inl, inr, List, length, replicate, get_or, arith}
 use Rattle.std.specs.Prelude.{◌&&◌, ◌||◌, nat_eq, nat_lt}
 use Rattle.std.proofs.lemmas.Bool.{and_parts, cases_lt}
 use Rattle.std.proofs.lemmas.Bool.Decides.{nat_tests}
@@ -15,7 +15,7 @@ use Rattle.jk_scan.specs.Flags.{word_at}
 use Rattle.jk_scan.proofs.Laws.{same_field, flag_none, on_zero}
 use Rattle.jk_block.specs.Meaning.{above}
 use Rattle.jk_block.specs.Reading.{Progress, put}
-use Rattle.jk_block.specs.Fields.{significant_of, flagged, words_of, plane_bit, own_bit, magnitude_of}
+use Rattle.jk_block.specs.Fields.{significant_of, flagged, words_of, plane_bit, own_bit, magnitude_of, AreUnmarked}
 use Rattle.jk_block.specs.decoding.BlockStates.{Draft}
 use Rattle.jk_block.proofs.decoding.Numbers.{number_none}
 
@@ -50,6 +50,12 @@ listed_at s i l =
     some : (i w k : ℕ) → i < w * k → 0 < w
     some i zero k l = absurd (omega arith)
     some i (suc w) k l = omega arith
+
+-- words of an array in which nothing is marked
+pub unmarked_words : (s : BlockShape) (n : ℕ) (words : List ℕ) → words_of s ≤ n → words ≡ replicate n 0 → AreUnmarked s words
+unmarked_words s n words room e =
+    let count : length words ≡ n = ap (λ (ws : List ℕ). length ws) e ∙ length-replicate n 0 in
+    (omega (arith, count, room), e ∙ ap (λ (k : ℕ). replicate k 0) (sym count))
 
 and_false : (b : Bool) → (b && false) ≡ false
 and_false true = refl

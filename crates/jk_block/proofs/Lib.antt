@@ -19,4 +19,3 @@ pub mod Parts
 pub mod Layering
 pub mod Stills
 pub mod StillBits
-pub mod Sizes

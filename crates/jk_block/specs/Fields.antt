@@ -1,6 +1,6 @@
 -- Words as fields.
 use Rattle.std.specs.Prelude.{◌≡◌, ℕ, zero, suc, ◌+◌, ◌*◌, ◌/◌, ◌%◌, ◌<◌, Bool, ◌&&◌, ◌||◌, nat_eq, nat_lt, List}
-use Rattle.std.specs.Prelude.{get_or, if◌then◌else◌}
+use Rattle.std.specs.Prelude.{◌≤◌, get_or, length, replicate, if◌then◌else◌}
 use Rattle.jk_scan.specs.declared.shape.BlockShape.{BlockShape}
 use Rattle.jk_scan.specs.Bits.{on}
 use Rattle.jk_scan.specs.Neighbours.{Field, is_inside}
@@ -30,6 +30,10 @@ with_word f j i word x y = f x y || (is_in_word j i x y && on word (own_bit x y)
 -- how many words show a block once, with their border
 abbrev pub words_of : BlockShape → ℕ
 words_of s = (across s + 2) * (stripes s + 2)
+
+-- Words that are enough to show a block, and mark no place.
+abbrev pub AreUnmarked : BlockShape → List ℕ → Type 0
+AreUnmarked s words = (words_of s ≤ length words) × (words ≡ replicate (length words) 0)
 
 -- Words that are the same where they show a block.
 abbrev pub AreSameWords : BlockShape → (a b : List ℕ) → Type 0

@@ -4,3 +4,4 @@
 pub mod BlockStates
 pub mod Sights
 pub mod Eights
+pub mod Laid

@@ -29,6 +29,8 @@ pub mod StripeRows
 pub mod Laws
 pub mod TileRowing
 pub mod RowLaws
+pub mod ReadLaws
+pub mod WalkLaws
 pub mod PictureRows
 mod GivenTiles
 pub mod EntriesKept

@@ -6,27 +6,25 @@ use Rattle.std.proofs.lemmas.List.FromFn.{length-map-range_with_len, get_or-map-
 use Rattle.jk_math.specs.Lists.{lists_of}
 use Rattle.jk_math.proofs.Laws.{raster_is}
 use Rattle.std.specs.Prelude.{slice_range}
-use Rattle.jk_math.specs.Answer.{◌>>=◌, Answers, Refuses}
-use Rattle.jk_math.specs.Steps.{refuses_due, ok_is}
+use Rattle.jk_math.specs.Answer.{Answers, Refuses}
+use Rattle.jk_math.specs.Steps.{refuses_due}
 use Rattle.jk_math.specs.Memory.{IsMemory}
 use Rattle.jk_math.specs.Picture.{Picture, IsPicture, sample_at}
 use Rattle.jk_math.specs.declared.fault.Fault.{Fault}
 use Rattle.jk_math.specs.declared.fault.Fault.TheVariants.{Memory}
 use Rattle.jk_math.specs.declared.rect.Rect.{Rect}
 use Rattle.jk_math.specs.Raster.{raster}
-use Rattle.jk_marks.specs.Siz.{tile_count, IsSiz}
+use Rattle.jk_marks.specs.Siz.{tile_count}
 use Rattle.jk_boxes.specs.declared.place.Boxed.{Boxed}
 use Rattle.jk_boxes.specs.Reading.{boxes_at}
 use Rattle.jk_geom.specs.Rectangles.{IsArea}
 use Rattle.jk_params.specs.Headers.{Headers, AreHeaders}
 use Rattle.jk_params.specs.HeadersReading.{headers_at}
 use Rattle.jk_tile.specs.Filling.{IsPartOf}
-use Rattle.jk_tile.proofs.Laws.{fine, bind_ok}
+use Rattle.jk_tile.proofs.Laws.{fine}
 use Rattle.jk_window.specs.Views.{HaveLevels, frame_of}
 use Rattle.jk_code.specs.declared.stripes.StripeCut.{StripeCut}
-use Rattle.jk_code.specs.declared.frames.ImageFrame.{ImageFrame}
 use Rattle.jk_code.specs.declared.making.MadeStripes.{MadeStripes}
-use Rattle.jk_code.specs.Frames.{headers_frame_at, IsFrameOfPicture}
 use Rattle.jk_code.specs.Made.{rows_of, AreMade, IsMadeOf, IsWhole, Makes}
 use Rattle.jk_code.specs.MeaningReading.{reduction_at, packets_tested, tiles_tested, planes_of_tiles, picture_with, picture_at, image_at, meaning_at}
 use Rattle.jk_code.specs.Stripes.{bound_of, stripe_of}
@@ -34,9 +32,7 @@ use Rattle.jk_code.specs.Tiles.{plane_in}
 use Rattle.jk_code.specs.ViewReading.{seen_parts_tested}
 use Rattle.jk_code.specs.Viewing.{picture_on}
 use Rattle.jk_code.proofs.FrameLaws.{tiles_picture, fields_from}
-use Rattle.jk_code.proofs.FrameHeaders.{headers_framed}
-use Rattle.jk_code.proofs.MeaningLaws.{picture_by}
-use Rattle.jk_code.proofs.Planes.{HasFrame, tiles_are_picture}
+use Rattle.jk_code.proofs.Planes.{HasFrame}
 use Rattle.jk_code.proofs.StripeLaws.{bound_last, stripe_part, stripes_fine, gathered, rows, raster_joined, raster_none}
 use Rattle.jk_code.proofs.ViewLaws.{seen_on, same_rect}
 
@@ -256,41 +252,14 @@ joined_picture p m planes whole same =
 pub makes_same : {A : Type 0} (gives : Picture → A → Type 0) (r : Result (MadeStripes A) Fault) (due again : Result Picture Fault) → due ≡ again → Makes gives r due → Makes gives r again
 makes_same gives r due again e makes = subst (λ (x : Result Picture Fault). Makes gives r x) e makes
 
-fault_is : {B : Type 0} (d e : Fault) → (let r : Result B Fault = Err d in r) ≡ Err e → d ≡ e
-fault_is d e q = cc
-
-bind_refused : {A B : Type 0} (r : Result A Fault) (f : A → B) (e : Fault) → (r >>= λ x. Ok (f x)) ≡ Err e → r ≡ Err e
-bind_refused (Ok x) f e q = absurd cc
-bind_refused {A} {B} (Err d) f e q = ap (λ (x : Fault). let r : Result A Fault = Err x in r) (fault_is {B = B} d e q)
-
 pub no_area : (bytes : List ℕ) (h : Headers) (d : ℕ) (e : Fault) → reduction_at h d ≡ Err e → Refuses e (picture_at h bytes d)
 unfolding picture_at
 no_area bytes h d e is = refuses_due e (picture_at h bytes d) (rw is refl)
-
-pub no_frame : (bytes : List ℕ) (h : Headers) (d : ℕ) (e : Fault) → headers_frame_at h d ≡ Err e → Refuses e (picture_at h bytes d)
-unfolding headers_frame_at
-no_frame bytes h d e is = no_area bytes h d e (bind_refused (reduction_at h d) _ e is)
 
 pub no_packets : (bytes : List ℕ) (h : Headers) (d : ℕ) (a : Rect) (e : Fault) → reduction_at h d ≡ Ok a → Refuses e (packets_tested bytes h (tile_count h.siz)) → Refuses e (picture_at h bytes d)
 unfolding picture_at
 no_packets bytes h d a (Memory r) area refused = tt
 no_packets bytes h d a e area refused = rw (area, refused) refl
-
-pub no_tiles : (bytes : List ℕ) (h : Headers) (d : ℕ) (a : Rect) (e : Fault) → reduction_at h d ≡ Ok a → packets_tested bytes h (tile_count h.siz) ≡ Ok tt → Refuses e (tiles_tested bytes h d (tile_count h.siz)) → Refuses e (picture_at h bytes d)
-unfolding picture_at
-no_tiles bytes h d a (Memory r) area packets refused = tt
-no_tiles bytes h d a e area packets refused = rw (area, packets, refused) refl
-
--- what is made of a picture, with its frame
-pub picture_made : {A : Type 0} (gives : Picture → A → Type 0) (bytes : List ℕ) (h : Headers) (d : ℕ) (a : Rect) (f : ImageFrame) (made : Vec A) → headers_frame_at h d ≡ Ok f → reduction_at h d ≡ Ok a → packets_tested bytes h (tile_count h.siz) ≡ Ok tt
-    → tiles_tested bytes h d (tile_count h.siz) ≡ Ok tt → IsSiz h.siz → HasFrame a → AreMade gives (picture_with h.siz a (planes_of_tiles bytes h d a)) a.y0 made.items → Makes gives (Ok (record { frame = f; made = made })) (picture_at h bytes d)
-picture_made gives bytes h d a f made told area packets tiles siz frame are =
-    let p = picture_with h.siz a (planes_of_tiles bytes h d a) in
-    let due : picture_at h bytes d ≡ Ok p =
-    picture_by bytes h d ∙ bind_ok (reduction_at h d) _ a area ∙ bind_ok (packets_tested bytes h (tile_count h.siz)) _ tt packets ∙ bind_ok (tiles_tested bytes h d (tile_count h.siz)) _ tt tiles in
-    let framed = headers_framed bytes h d p due in
-    let same : IsFrameOfPicture f p = subst (λ (g : ImageFrame). IsFrameOfPicture g p) (ok_is framed.frame f (sym framed.told ∙ told)) framed.same in
-    (p, due, record { profile = tiles_are_picture bytes h d a siz frame; frame = same; made = are })
 
 -- a codestream whose headers are read
 pub image_by : (bytes : List ℕ) (h : Headers) (d : ℕ) → headers_at bytes ≡ Ok h → picture_at h bytes d ≡ image_at bytes d

@@ -1,12 +1,9 @@
 -- What decoding gives is what the file means, and a file's meaning is given.
-use Rattle.std.proofs.Common.{◌≡◌, ℕ, ◌-◌, ◌<◌, ◌≤◌, not, List, length, drop, Result, Ok, ℤ, refl, sym, ap, subst, ◌∙◌, arith}
+use Rattle.std.proofs.Common.{◌≡◌, ℕ, ◌-◌, ◌<◌, ◌≤◌, not, List, length, drop, Ok, refl, sym, ap, subst, ◌∙◌, arith}
 use Rattle.std.specs.Prelude.{slice_range}
 use Rattle.std.specs.List.{AllByRecursion}
 use Rattle.std.proofs.lemmas.Bool.{not-false}
-use Rattle.std.specs.Global.{Vec}
-use Rattle.jk_math.specs.Lists.{lists_of}
-use Rattle.jk_math.specs.Steps.{bind_then, refuse_then, done, ok_is, answers_same, answers_due}
-use Rattle.jk_math.specs.declared.fault.Fault.{Fault}
+use Rattle.jk_math.specs.Steps.{bind_then, refuse_then, done, ok_is}
 use Rattle.jk_math.specs.declared.fault.Fault.TheVariants.{BadWindow}
 use Rattle.jk_math.specs.declared.rect.Rect.{Rect}
 use Rattle.jk_math.specs.Picture.{Picture}
@@ -32,7 +29,7 @@ use Rattle.jk_window.proofs.Laws.{levels_found, levels_only}
 use Rattle.jk_tile.proofs.Laws.{each_found, each_only, bind_ok}
 use Rattle.jk_code.proofs.Tiling.{tile_shows, TileRead, tile_read, tile_value, tile_levels}
 use Rattle.jk_code.proofs.FrameLaws.{tiles_picture, tiles_frame, picture_is}
-use Rattle.jk_math.specs.Answer.{◌>>=◌, Answers}
+use Rattle.jk_math.specs.Answer.{◌>>=◌}
 
 -- ---- the reduction
 
@@ -70,16 +67,6 @@ pub picture_by : (bytes : List ℕ) (h : Headers) (d : ℕ) → picture_at h byt
     ≡ (reduction_at h d >>= λ area. packets_tested bytes h (tile_count h.siz) >>= λ _. tiles_tested bytes h d (tile_count h.siz) >>= λ _. Ok (picture_with h.siz area (planes_of_tiles bytes h d area)))
 unfolding picture_at
 picture_by bytes h d = refl
-
--- the picture of planes that are those of all tiles
-pub picture_due : (bytes : List ℕ) (h : Headers) (d : ℕ) (a : Rect) (planes : List (Vec ℤ)) (r : Result Picture Fault) → reduction_at h d ≡ Ok a
-    → packets_tested bytes h (tile_count h.siz) ≡ Ok tt → tiles_tested bytes h d (tile_count h.siz) ≡ Ok tt → lists_of planes ≡ planes_of_tiles bytes h d a
-    → r ≡ Ok (picture_with h.siz a (lists_of planes)) → Answers (λ i. i) r (picture_at h bytes d)
-picture_due bytes h d a planes r area packets tiles same e =
-    let picture = picture_with h.siz a (planes_of_tiles bytes h d a) in
-    let due : picture_at h bytes d ≡ Ok picture =
-    picture_by bytes h d ∙ bind_ok (reduction_at h d) _ a area ∙ bind_ok (packets_tested bytes h (tile_count h.siz)) _ tt packets ∙ bind_ok (tiles_tested bytes h d (tile_count h.siz)) _ tt tiles in
-    answers_same (λ i. i) r (Ok picture) (picture_at h bytes d) (answers_due (λ i. i) r picture (e ∙ ap (λ (ps : List (List ℤ)). Ok (picture_with h.siz a ps)) same)) (sym due)
 
 -- What a codestream that is read gives is what it means.
 pub found_picture : (bytes : List ℕ) (h : Headers) (d : ℕ) (p : Picture) → IsHeaders bytes h → picture_at h bytes d ≡ Ok p → MeansPicture bytes d p

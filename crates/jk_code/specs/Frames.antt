@@ -4,7 +4,9 @@ use Rattle.std.specs.Prelude.{◌≡◌, ℕ, ◌-◌, List, length, slice_range
 use Rattle.jk_math.specs.Answer.{◌>>=◌}
 use Rattle.jk_math.specs.declared.fault.Fault.{Fault}
 use Rattle.jk_math.specs.Picture.{Picture}
+use Rattle.jk_math.specs.declared.rect.Rect.{Rect}
 use Rattle.jk_marks.specs.Siz.{tile_count}
+use Rattle.jk_marks.specs.declared.siz.Siz.{Siz}
 use Rattle.jk_boxes.specs.Reading.{boxes_at}
 use Rattle.jk_params.specs.Headers.{Headers}
 use Rattle.jk_params.specs.HeadersReading.{headers_at}
@@ -22,20 +24,24 @@ pub record IsFrameOfPicture (f : ImageFrame) (p : Picture) : Type 0 where
   pub depth : f.depth ≡ p.depth
   pub signed : f.signed ≡ p.signed
 
+-- the frame of an image that lies here, with so many levels
+abbrev pub frame_with : Siz → Rect → (levels : ℕ) → ImageFrame
+frame_with s a levels = record {
+  x0 = a.x0;
+  y0 = a.y0;
+  width = a.x1 - a.x0;
+  height = a.y1 - a.y0;
+  components = s.components;
+  depth = s.depth;
+  signed = s.signed;
+  levels = levels;
+}
+
 -- the frame that headers tell at reduction d, or the first fault
 unfoldable pub headers_frame_at : Headers → (d : ℕ) → Result ImageFrame Fault
 headers_frame_at h d = do
   area ← reduction_at h d
-  Ok (record {
-    x0 = area.x0;
-    y0 = area.y0;
-    width = area.x1 - area.x0;
-    height = area.y1 - area.y0;
-    components = h.siz.components;
-    depth = h.siz.depth;
-    signed = h.siz.signed;
-    levels = least_levels h.tiles (tile_count h.siz);
-  })
+  Ok (frame_with h.siz area (least_levels h.tiles (tile_count h.siz)))
 
 -- the same of a codestream
 unfoldable pub codestream_frame_at : List ℕ → (d : ℕ) → Result ImageFrame Fault

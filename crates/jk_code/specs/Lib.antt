@@ -19,6 +19,7 @@ pub mod Beginnings
 pub mod Sending
 pub mod Examples
 pub mod Rows
+pub mod ReadImages
 pub mod DataTold
 pub mod Contents
 pub mod RowsWritten

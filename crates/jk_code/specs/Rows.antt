@@ -1,13 +1,18 @@
 -- An image that is given in stripes of rows, one below the other, to what takes them.
-use Rattle.std.specs.Prelude.{◌≡◌, ℕ, ◌+◌, ◌<◌, ◌≤◌, List, [], ◌∷◌, length, slice_index_or}
+use Rattle.std.specs.Prelude.{◌≡◌, ℕ, ◌+◌, ◌-◌, ◌*◌, ◌%◌, ◌^◌, ◌<◌, ◌≤◌, ◌⊎◌, List, [], ◌∷◌, length, slice_index_or, Result, Ok, Err}
+use Rattle.jk_math.specs.Answer.{Answers}
 use Rattle.jk_math.specs.Picture.{Picture}
 use Rattle.jk_math.specs.declared.fault.Fault.{Fault}
+use Rattle.jk_math.specs.declared.fault.Fault.TheVariants.{Shelf}
 use Rattle.jk_math.specs.declared.rect.Rect.{Rect}
-use Rattle.jk_marks.specs.Siz.{tile_count}
+use Rattle.jk_marks.specs.Siz.{tile_count, tiles_across}
 use Rattle.jk_tile.specs.TileMeaning.{shown_area}
+use Rattle.jk_tile.specs.decoding.TileReading.{tested, tile_planes_at}
 use Rattle.jk_tile.specs.decoding.TileSources.{TileSource}
+use Rattle.jk_rows.specs.Components.{IsStepEnd}
 use Rattle.jk_rows.specs.declared.tile.TileRows.{TileRows}
 use Rattle.jk_rows.specs.Tiles.{IsTileRows, HasFaultIn}
+use Rattle.jk_code.specs.declared.row_walk.RowWalk.{RowWalk}
 use Rattle.jk_code.specs.declared.rows.TileRow.{TileRow}
 use Rattle.jk_code.specs.Made.{rows_of}
 use Rattle.jk_code.specs.MeaningReading.{picture_with, planes_of_tiles}
@@ -57,3 +62,36 @@ pub record IsTileRow (s : ImageSource) (first across y : ℕ) (row : TileRow) : 
   pub whole : first + across ≤ tile_count s.headers.siz
   pub count : length row.tiles.items ≡ across
   pub each : (k : ℕ) (other : TileRows) → k < across → IsTileRows (tile_source s (first + k)) y (slice_index_or row.tiles.items k other)
+
+-- no code-block of tile `number` has a fault
+abbrev pub IsFineTile : ImageSource → (number : ℕ) → Type 0
+IsFineTile s number = tested (tile_planes_at s.bytes s.headers number s.reduce (slice_index_or s.packets number [])) ≡ Ok tt
+
+-- A walk stands in a row of tiles: rows y up to end are a step of it, and there are some, if the row
+-- of tiles has rows that weren't given.
+pub record IsInRow (s : ImageSource) (walk : RowWalk) : Type 0 where
+  pub row : IsTileRow s walk.row.first (tiles_across s.headers.siz) walk.y walk.row
+  pub area : walk.area ≡ area_of_tile s walk.row.first
+  pub from : IsStepEnd walk.area walk.y
+  pub to : IsStepEnd walk.area walk.end
+  pub order : walk.y ≤ walk.end
+  pub more : walk.y < walk.area.y1 → walk.y < walk.end
+
+-- A walk down the rows of a source stands in a row of tiles, or behind the last row; no code-block of
+-- the tiles that are behind it has a fault.
+pub record IsRowWalk (s : ImageSource) (walk : RowWalk) : Type 0 where
+  pub step : 1 ≤ walk.step
+  pub high : walk.area.y1 < 2 ^ 31
+  pub begins : walk.row.first % tiles_across s.headers.siz ≡ 0
+  pub few : walk.row.first ≤ tile_count s.headers.siz
+  pub fine : (t : ℕ) → t < walk.row.first → IsFineTile s t
+  pub inside : walk.row.first < tile_count s.headers.siz → IsInRow s walk
+  pub end : tile_count s.headers.siz ≤ walk.row.first → walk.y ≡ s.area.y1
+
+-- how much of it is left
+abbrev pub rows_left : ImageSource → RowWalk → ℕ
+rows_left s walk = (tile_count s.headers.siz - walk.row.first) * 2 ^ 31 + (walk.area.y1 - walk.y)
+
+-- What is told where rows are given: what is due, or that they were refused where no fault is due.
+abbrev pub IsTold : Result (Unit {0}) Fault → (due : Result (Unit {0}) Fault) → Type 0
+IsTold result due = Answers (λ _. tt) result due ⊎ ((result ≡ Err Shelf) × (due ≡ Ok tt))

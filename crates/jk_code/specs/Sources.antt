@@ -9,6 +9,11 @@ use Rattle.jk_walk.specs.declared.places.PacketPlace.{PacketPlace}
 use Rattle.jk_window.specs.Views.{HaveLevels, frame_of}
 use Rattle.jk_code.specs.Tiles.{AreRead}
 
+-- the headers of a codestream, and its bytes
+pub record CodestreamSource : Type 0 where
+  pub headers : Headers
+  pub bytes : List ℕ
+
 -- the codestream's headers, its bytes, the packets of its tiles, the reduction, and the rectangle of
 -- the reduced image
 pub record ImageSource : Type 0 where

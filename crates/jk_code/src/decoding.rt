@@ -15,18 +15,18 @@ ghost use Rattle.jk_walk.specs.WalkReading.{packets_at};
 ghost use Rattle.jk_tile.specs.decoding.TileReading.{tested, tile_planes_at};
 ghost use Rattle.jk_code.specs.Meaning.{Means};
 ghost use Rattle.jk_code.specs.MeaningReading.{places_at, packets_tested, tiles_tested, planes_of_tiles, picture_with};
-ghost use Rattle.jk_code.specs.MeaningReading.{picture_at, image_at, meaning_at};
+ghost use Rattle.jk_code.specs.MeaningReading.{meaning_at};
+ghost use Rattle.jk_code.specs.ReadImages.{IsReadImage};
 ghost use Rattle.jk_geom.specs.Rectangles.{IsArea};
 ghost use Rattle.jk_math.specs.Raster.{places_of};
 ghost use Rattle.jk_code.specs.Tiles.{AreRead, ArePlanes, KeepsSamples, ShowsTileAt, IsPartSeen, part_lists, plane_in};
 ghost use Rattle.jk_window.specs.Views.{HaveLevels, frame_of};
 
-use crate::coded::CodedImage;
-use crate::reduction::check_reduction;
-use jk_boxes::open;
+use crate::coded::{CodedImage, HeadedBytes};
+use crate::reading::{ReadImage, read_image};
 use jk_geom::{reduced, tile};
 use jk_math::{Fault, Image, Rect};
-use jk_params::{Codestream, read_codestream};
+use jk_params::Codestream;
 use jk_tile::{CodedTile, decode_tile, put};
 use jk_walk::{TilePackets, read_packets};
 use std::alloc::Global;
@@ -34,13 +34,15 @@ use std::alloc::Global;
 /// The packets of all tiles.
 pub(crate) fn all_packets(
     alloc: Global,
-    headers: &Codestream,
-    bytes: &[u8],
+    source: &HeadedBytes<'_>,
 ) -> Result<Vec<TilePackets>, Fault>
-    requires sound { AreHeaders (length bytes.now) headers.now }
-    ensures exact { Answers (λ _. tt) result (packets_tested bytes.now headers.now (tile_count headers.now.siz)) }
-    ensures read { IfOk result (λ v. AreRead bytes.now headers.now (tile_count headers.now.siz) v.items) }
+    ensures exact { Answers (λ _. tt) result
+        (packets_tested source.now.bytes source.now.headers (tile_count source.now.headers.siz)) }
+    ensures read { IfOk result
+        (λ v. AreRead source.now.bytes source.now.headers (tile_count source.now.headers.siz) v.items) }
 {
+    let headers = source.headers;
+    let bytes = source.bytes;
     let mut all = Vec::new(alloc);
     for number in 0..headers.tile_count() {
         all.push(read_packets(alloc, headers, bytes, number)?)?;
@@ -173,41 +175,22 @@ pub(crate) fn image_of(
     )
 }
 
-/// The image of a codestream with these headers at a reduction.
-#[tactic(auto, unfolding(crate::specs::MeaningReading::picture_at))]
-fn picture(alloc: Global, headers: &Codestream, bytes: &[u8], reduce: u32) -> Result<Image, Fault>
-    requires { AreHeaders (length bytes.now) headers.now }
-    ensures { Answers (λ i. i) result (picture_at headers.now bytes.now reduce) }
+/// The image of a file that is read but for its code-blocks.
+fn picture(alloc: Global, bytes: &[u8], read: &ReadImage) -> Result<Image, Fault>
+    requires { (d : ℕ) × IsReadImage bytes.now d read.now }
+    ensures { (d : ℕ) → IsReadImage bytes.now d read.now → Answers (λ i. i) result (meaning_at bytes.now d) }
 {
-    let area = check_reduction(headers, reduce)?;
-    let packets = all_packets(alloc, headers, bytes)?;
-    let coded = CodedImage {
-        headers,
-        bytes,
-        packets: &packets,
-        reduce: reduce as u8,
-        area,
-    };
+    let coded = read.coded(bytes);
     let planes = all_planes(alloc, &coded)?;
-    image_of(headers, &area, planes)
-}
-
-/// The image that a codestream means.
-#[tactic(auto, unfolding(crate::specs::MeaningReading::image_at))]
-fn codestream_image(alloc: Global, bytes: &[u8], reduce: u32) -> Result<Image, Fault>
-    ensures { Answers (λ i. i) result (image_at bytes.now reduce) }
-{
-    let headers = read_codestream(alloc, bytes)?;
-    picture(alloc, &headers, bytes, reduce)
+    image_of(&read.headers, &read.area, planes)
 }
 
 /// The image that a file means.
-#[tactic(auto, unfolding(crate::specs::MeaningReading::meaning_at))]
 fn meaning(alloc: Global, bytes: &[u8], reduce: u32) -> Result<Image, Fault>
     ensures { Answers (λ i. i) result (meaning_at bytes.now reduce) }
 {
-    let boxed = open(bytes)?;
-    codestream_image(alloc, &bytes[boxed.start..boxed.end], reduce)
+    let read = read_image(alloc, bytes, reduce)?;
+    picture(alloc, bytes, &read)
 }
 
 /// The image that a file, a bare codestream or a JP2 file, means at a reduction: the image itself

@@ -1,17 +1,18 @@
 //! What boxes and headers say of an image.
 
-ghost use Rattle.std.specs.Prelude.{◌≡◌, ℕ, length, IfOk, IfErr};
+ghost use Rattle.std.specs.Prelude.{◌≡◌, IfOk, IfErr};
 ghost use Rattle.jk_math.specs.Answer.{Answers};
 ghost use Rattle.jk_math.specs.Memory.{IsMemory};
 ghost use Rattle.jk_math.specs.Picture.{Picture};
-ghost use Rattle.jk_params.specs.Headers.{AreHeaders};
+ghost use Rattle.jk_geom.specs.Rectangles.{IsArea};
 ghost use Rattle.jk_code.specs.Meaning.{Means};
-ghost use Rattle.jk_code.specs.Frames.{headers_frame_at, codestream_frame_at, frame_at, IsFrameOfPicture};
+ghost use Rattle.jk_code.specs.Frames.{frame_with, codestream_frame_at, frame_at, IsFrameOfPicture};
 
 use crate::reduction::check_reduction;
 use jk_boxes::open;
-use jk_math::Fault;
-use jk_params::{Codestream, read_codestream};
+use jk_marks::Siz;
+use jk_math::{Fault, Rect};
+use jk_params::read_codestream;
 use std::alloc::Global;
 
 /// Where an image lies at a reduction, how large it is, and what its samples are.
@@ -36,15 +37,12 @@ pub struct ImageFrame {
     pub levels: u8,
 }
 
-/// What headers say of the image at a reduction.
-#[tactic(auto, unfolding(crate::specs::Frames::headers_frame_at))]
-pub(crate) fn headers_frame(headers: &Codestream, reduce: u32) -> Result<ImageFrame, Fault>
-    requires { (size : ℕ) × AreHeaders size headers.now }
-    ensures { result ≡ headers_frame_at headers.now reduce }
+/// The frame of an image that lies here, with so many levels.
+pub(crate) fn image_frame(siz: &Siz, area: &Rect, levels: u8) -> ImageFrame
+    requires { IsArea area.now }
+    ensures { result ≡ frame_with siz.now area.now levels }
 {
-    let area = check_reduction(headers, reduce)?;
-    let siz = headers.siz();
-    Ok(ImageFrame {
+    ImageFrame {
         x0: area.x0,
         y0: area.y0,
         width: area.x1 - area.x0,
@@ -52,17 +50,18 @@ pub(crate) fn headers_frame(headers: &Codestream, reduce: u32) -> Result<ImageFr
         components: siz.components,
         depth: siz.depth,
         signed: siz.signed,
-        levels: headers.least_levels(),
-    })
+        levels,
+    }
 }
 
 /// What the headers of a codestream say of the image at a reduction.
-#[tactic(auto, unfolding(crate::specs::Frames::codestream_frame_at))]
+#[tactic(auto, unfolding(crate::specs::Frames::codestream_frame_at, crate::specs::Frames::headers_frame_at))]
 fn codestream_frame(alloc: Global, bytes: &[u8], reduce: u32) -> Result<ImageFrame, Fault>
     ensures { Answers (λ f. f) result (codestream_frame_at bytes.now reduce) }
 {
     let headers = read_codestream(alloc, bytes)?;
-    headers_frame(&headers, reduce)
+    let area = check_reduction(&headers, reduce)?;
+    Ok(image_frame(headers.siz(), &area, headers.least_levels()))
 }
 
 /// What boxes and headers of a file say of the image at a reduction.

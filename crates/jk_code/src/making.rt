@@ -9,27 +9,21 @@ ghost use Rattle.jk_math.specs.Picture.{Picture, IsPicture, IsFrame};
 ghost use Rattle.jk_math.specs.declared.fault.Fault.TheVariants.{BadParameters};
 ghost use Rattle.jk_marks.specs.Siz.{tile_count};
 ghost use Rattle.jk_geom.specs.Rectangles.{IsArea, is_empty};
-ghost use Rattle.jk_params.specs.Headers.{AreHeaders};
 ghost use Rattle.jk_tile.specs.Filling.{IsPartOf};
 ghost use Rattle.jk_tile.specs.decoding.Decoded.{AreDecoded};
-ghost use Rattle.jk_window.specs.Views.{HaveLevels, frame_of};
 ghost use Rattle.jk_code.specs.Made.{AreMade, IsMadeOf, Makes};
 ghost use Rattle.jk_code.specs.Meaning.{Means};
-ghost use Rattle.jk_code.specs.MeaningReading.{tiles_tested, planes_of_tiles, picture_with, picture_at, image_at};
-ghost use Rattle.jk_code.specs.MeaningReading.{meaning_at};
+ghost use Rattle.jk_code.specs.MeaningReading.{tiles_tested, planes_of_tiles, picture_with, meaning_at};
 ghost use Rattle.jk_code.specs.Stripes.{stripe_of};
-ghost use Rattle.jk_code.specs.Tiles.{AreRead};
 ghost use Rattle.jk_code.specs.ViewReading.{seen_parts_tested};
 
 use crate::coded::CodedImage;
-use crate::decoding::{all_packets, all_planes, image_of};
-use crate::frames::{ImageFrame, headers_frame};
-use crate::reduction::check_reduction;
+use crate::decoding::{all_planes, image_of};
+use crate::frames::{ImageFrame, image_frame};
+use crate::reading::read_image;
 use crate::stripes::{StripeCut, cut_for, stripe, stripe_planes};
-use jk_boxes::open;
 use jk_jobs::{Gate, Open};
 use jk_math::{Fault, Image, Rect};
-use jk_params::{Codestream, read_codestream};
 use jk_tile::{DecodedBlocks, Workers, decode_blocks_with};
 use std::alloc::Global;
 use std::marker::{Send, Sync};
@@ -202,46 +196,6 @@ fn made_with<R: Threads + Sync, G: Gate + Sync, S: StripeWork + Sync>(
     }
 }
 
-/// What is made of the image of a codestream with these headers at a reduction.
-fn made_of_picture<R: Threads + Sync, G: Gate + Sync, S: StripeWork + Sync>(
-    workers: &Workers<'_, R>,
-    alloc: Global,
-    gate: &G,
-    headers: &Codestream,
-    bytes: &[u8],
-    reduce: u32,
-) -> Result<MadeStripes<S::Made>, Fault>
-    requires { AreHeaders (length bytes.now) headers.now }
-    ensures { Makes S.gives result (picture_at headers.now bytes.now reduce) }
-{
-    let frame = headers_frame(headers, reduce)?;
-    let area = check_reduction(headers, reduce)?;
-    let packets = all_packets(alloc, headers, bytes)?;
-    let coded = CodedImage {
-        headers,
-        bytes,
-        packets: &packets,
-        reduce: reduce as u8,
-        area,
-    };
-    let made = made_with::<R, G, S>(workers, alloc, gate, &coded)?;
-    Ok(MadeStripes { frame, made })
-}
-
-/// What is made of the image that a codestream means.
-fn made_of_codestream<R: Threads + Sync, G: Gate + Sync, S: StripeWork + Sync>(
-    workers: &Workers<'_, R>,
-    alloc: Global,
-    gate: &G,
-    bytes: &[u8],
-    reduce: u32,
-) -> Result<MadeStripes<S::Made>, Fault>
-    ensures { Makes S.gives result (image_at bytes.now reduce) }
-{
-    let headers = read_codestream(alloc, bytes)?;
-    made_of_picture::<R, G, S>(workers, alloc, gate, &headers, bytes, reduce)
-}
-
 /// What is made of the image that a file means.
 fn made_of_file<R: Threads + Sync, G: Gate + Sync, S: StripeWork + Sync>(
     workers: &Workers<'_, R>,
@@ -252,8 +206,12 @@ fn made_of_file<R: Threads + Sync, G: Gate + Sync, S: StripeWork + Sync>(
 ) -> Result<MadeStripes<S::Made>, Fault>
     ensures { Makes S.gives result (meaning_at bytes.now reduce) }
 {
-    let boxed = open(bytes)?;
-    made_of_codestream::<R, G, S>(workers, alloc, gate, &bytes[boxed.start..boxed.end], reduce)
+    let read = read_image(alloc, bytes, reduce)?;
+    let coded = read.coded(bytes);
+    let made = made_with::<R, G, S>(workers, alloc, gate, &coded)?;
+    let headers = &read.headers;
+    let frame = image_frame(headers.siz(), &read.area, headers.least_levels());
+    Ok(MadeStripes { frame, made })
 }
 
 /// What is made of the image that a file means at a reduction, in stripes of rows: of each stripe by

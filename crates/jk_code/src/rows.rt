@@ -1,6 +1,6 @@
 //! Decoding row by row: an image that is never whole in memory.
 
-ghost use Rattle.std.specs.Prelude.{◌≡◌, ℕ, ◌+◌, ◌%◌, ◌^◌, ◌<◌, ◌≤◌, ◌⊎◌, [], length, slice_index_or, Ok, Err, IfOk, IfErr, OnOk};
+ghost use Rattle.std.specs.Prelude.{◌≡◌, ℕ, ◌+◌, ◌%◌, ◌^◌, ◌<◌, ◌≤◌, ◌⊎◌, Ok, Err, IfOk, IfErr, OnOk};
 ghost use Rattle.jk_math.specs.Answer.{Answers};
 ghost use Rattle.jk_math.specs.Memory.{IsMemory};
 ghost use Rattle.jk_math.specs.Lists.{lists_of};
@@ -8,23 +8,22 @@ ghost use Rattle.jk_math.specs.Picture.{Picture};
 ghost use Rattle.jk_math.specs.declared.fault.Fault.TheVariants.{Shelf};
 ghost use Rattle.jk_marks.specs.Siz.{IsSiz, tile_count, tiles_across};
 ghost use Rattle.jk_geom.specs.Rectangles.{IsArea};
-ghost use Rattle.jk_params.specs.Headers.{AreHeaders};
 ghost use Rattle.jk_tile.specs.decoding.Decoded.{AreDecoded};
-ghost use Rattle.jk_tile.specs.decoding.TileReading.{tested, tile_planes_at};
+ghost use Rattle.jk_tile.specs.decoding.TileReading.{tested};
 ghost use Rattle.jk_rows.specs.Components.{IsStepEnd};
 ghost use Rattle.jk_code.specs.Meaning.{Means};
-ghost use Rattle.jk_code.specs.MeaningReading.{meaning_at, picture_at, planes_of_tiles, tiles_tested};
+ghost use Rattle.jk_code.specs.MeaningReading.{meaning_at, planes_of_tiles, tiles_tested};
 ghost use Rattle.jk_code.specs.Rows.{WereTaken, picture_of, tile_source, area_of_tile, part_of_stripe};
-ghost use Rattle.jk_code.specs.Rows.{HasFaultAt, IsTileRow};
+ghost use Rattle.jk_code.specs.Sources.{IsImageSource};
+ghost use Rattle.jk_code.specs.Rows.{HasFaultAt, IsFineTile, IsTileRow, IsRowWalk, IsTold, rows_left};
 
 use crate::coded::CodedImage;
-use crate::decoding::{all_packets, blank_planes, image_of, put_tile};
-use crate::reduction::check_reduction;
-use jk_boxes::open;
+use crate::decoding::{blank_planes, image_of, put_tile};
+use crate::reading::read_image;
+use crate::row_walk::{RowWalk, walk_from};
 use jk_geom::{reduced, tile};
 use jk_marks::Siz;
 use jk_math::{Fault, Image, Rect};
-use jk_params::{Codestream, read_codestream};
 use jk_rows::TileRows;
 use jk_tile::{CodedTile, DecodedBlocks, judge_tile};
 use std::alloc::Global;
@@ -150,8 +149,7 @@ pub(crate) fn stripe_planes(
         ≡ planes_of_tiles coded.now.bytes coded.now.headers coded.now.reduce stripe.now) }
     // Behind the last row no code-block of the tiles has a fault.
     ensures fine { stripe.now.y1 ≡ (area_of_tile coded.now row.old.first).y1 → OnOk result
-        ((k : ℕ) → k < tiles_across coded.now.headers.siz → tested (tile_planes_at coded.now.bytes coded.now.headers
-        (row.old.first + k) coded.now.reduce (slice_index_or coded.now.packets (row.old.first + k) [])) ≡ Ok tt) }
+        ((k : ℕ) → k < tiles_across coded.now.headers.siz → IsFineTile coded.now (row.old.first + k)) }
     ensures cause { IfErr result (λ e. IsMemory e ⊎ HasFaultAt coded.now e) }
 {
     let headers = coded.headers;
@@ -165,9 +163,9 @@ pub(crate) fn stripe_planes(
     Ok(planes)
 }
 
-/// Gives rows `y` up to `end`, which lie in a row of tiles. Code-blocks that were decoded before aren't
-/// decoded again.
-pub(crate) fn give_stripe<S: Rows>(
+/// Gives rows `y` up to `end`, which lie in a row of tiles; of a row of tiles that has no rows none are
+/// given, and its code-blocks are decoded. Those that were decoded before aren't decoded again.
+fn give_stripe<S: Rows>(
     alloc: Global,
     coded: &CodedImage<'_>,
     row: &mut TileRow,
@@ -179,14 +177,14 @@ pub(crate) fn give_stripe<S: Rows>(
     requires decoded { AreDecoded coded.now.bytes decoded.now }
     requires row { IsTileRow coded.now row.old.first (tiles_across coded.now.headers.siz) y row.old }
     requires first { row.old.first % tiles_across coded.now.headers.siz ≡ 0 }
-    requires order { y < end }
+    requires order { y ≤ end }
     requires from { IsStepEnd (area_of_tile coded.now row.old.first) y }
     requires to { IsStepEnd (area_of_tile coded.now row.old.first) end }
     ensures row { OnOk result (IsTileRow coded.now row.old.first (tiles_across coded.now.headers.siz) end row.new) }
     ensures taken { OnOk result (WereTaken S.took (picture_of coded.now) y end rows.old rows.new) }
+    // Behind the last row no code-block of the tiles has a fault.
     ensures fine { end ≡ (area_of_tile coded.now row.old.first).y1 → OnOk result
-        ((k : ℕ) → k < tiles_across coded.now.headers.siz → tested (tile_planes_at coded.now.bytes coded.now.headers
-        (row.old.first + k) coded.now.reduce (slice_index_or coded.now.packets (row.old.first + k) [])) ≡ Ok tt) }
+        ((k : ℕ) → k < tiles_across coded.now.headers.siz → IsFineTile coded.now (row.old.first + k)) }
     ensures cause { IfErr result (λ e. IsMemory e ⊎ (e ≡ Shelf) ⊎ HasFaultAt coded.now e) }
 {
     let stripe = Rect {
@@ -196,46 +194,37 @@ pub(crate) fn give_stripe<S: Rows>(
         y1: end,
     };
     let planes = stripe_planes(alloc, coded, row, &stripe, decoded)?;
+    if y == end {
+        return Ok(());
+    }
     rows.take(alloc, image_of(coded.headers, &stripe, planes)?)
 }
 
-/// Gives the rows of a row of tiles.
-fn give_tiles<S: Rows>(
+/// Gives the rows that come next. Code-blocks that were decoded before aren't decoded again.
+pub(crate) fn give_next<S: Rows>(
     alloc: Global,
     coded: &CodedImage<'_>,
-    row: &mut TileRow,
-    step: u32,
+    walk: &mut RowWalk,
+    decoded: &DecodedBlocks,
     rows: &mut S,
 ) -> Result<(), Fault>
-    requires step { 1 ≤ step }
-    requires first { row.old.first % tiles_across coded.now.headers.siz ≡ 0 }
-    requires row { IsTileRow coded.now row.old.first (tiles_across coded.now.headers.siz)
-        (area_of_tile coded.now row.old.first).y0 row.old }
-    ensures taken { OnOk result (WereTaken S.took (picture_of coded.now) (area_of_tile coded.now row.old.first).y0
-        (area_of_tile coded.now row.old.first).y1 rows.old rows.new) }
-    ensures fine { OnOk result ((k : ℕ) → k < tiles_across coded.now.headers.siz
-        → tested (tile_planes_at coded.now.bytes coded.now.headers (row.old.first + k) coded.now.reduce
-        (slice_index_or coded.now.packets (row.old.first + k) [])) ≡ Ok tt) }
+    requires decoded { AreDecoded coded.now.bytes decoded.now }
+    requires walk { IsRowWalk coded.now walk.old }
+    requires some { walk.old.row.first < tile_count coded.now.headers.siz }
+    ensures walk { OnOk result (IsRowWalk coded.now walk.new) }
+    ensures down { OnOk result (walk.old.y ≤ walk.new.y) }
+    ensures less { OnOk result (rows_left coded.now walk.new < rows_left coded.now walk.old) }
+    ensures taken { OnOk result (WereTaken S.took (picture_of coded.now) walk.old.y walk.new.y rows.old rows.new) }
     ensures cause { IfErr result (λ e. IsMemory e ⊎ (e ≡ Shelf) ⊎ HasFaultAt coded.now e) }
 {
-    let none = DecodedBlocks::none(alloc);
-    let area = reduced(&tile(coded.headers.siz(), row.first as u32), coded.reduce);
-    if area.y0 == area.y1 {
-        let empty = Rect {
-            x0: coded.area.x0,
-            y0: area.y0,
-            x1: coded.area.x1,
-            y1: area.y1,
-        };
-        stripe_planes(alloc, coded, row, &empty, &none)?;
+    give_stripe(alloc, coded, &mut walk.row, walk.y, walk.end, decoded, rows)?;
+    if walk.end < walk.area.y1 {
+        walk.y = walk.end;
+        walk.end = step_end(walk.y, walk.area.y1, walk.step);
         return Ok(());
     }
-    let mut y = area.y0;
-    while y < area.y1 {
-        let end = step_end(y, area.y1, step);
-        give_stripe(alloc, coded, row, y, end, &none, rows)?;
-        y = end;
-    }
+    let first = walk.row.first + tiles_across(coded.headers.siz());
+    *walk = walk_from(alloc, coded, first, walk.step)?;
     Ok(())
 }
 
@@ -253,12 +242,10 @@ fn give_rows<S: Rows>(
         (tile_count coded.now.headers.siz) ≡ Ok tt) }
     ensures cause { IfErr result (λ e. IsMemory e ⊎ (e ≡ Shelf) ⊎ HasFaultAt coded.now e) }
 {
-    let across = tiles_across(coded.headers.siz());
-    let mut first = 0;
-    while first < coded.headers.tile_count() {
-        let mut row = tile_row(alloc, coded, first, across)?;
-        give_tiles(alloc, coded, &mut row, step, rows)?;
-        first += across;
+    let none = DecodedBlocks::none(alloc);
+    let mut walk = walk_from(alloc, coded, 0, step)?;
+    while walk.row.first < coded.headers.tile_count() {
+        give_next(alloc, coded, &mut walk, &none, rows)?;
     }
     Ok(())
 }
@@ -267,6 +254,7 @@ fn give_rows<S: Rows>(
 pub(crate) fn judge(alloc: Global, coded: &CodedImage<'_>) -> Result<(), Fault>
     ensures exact { Answers (λ u. u) result
         (tiles_tested coded.now.bytes coded.now.headers coded.now.reduce (tile_count coded.now.headers.siz)) }
+    ensures source { IsImageSource coded.now }
 {
     for number in 0..coded.headers.tile_count() {
         judge_tile(alloc, &tile_of(coded, number))?;
@@ -274,36 +262,25 @@ pub(crate) fn judge(alloc: Global, coded: &CodedImage<'_>) -> Result<(), Fault>
     Ok(())
 }
 
-/// Gives the rows of a codestream with these headers at a reduction.
-fn picture_rows<S: Rows>(
+/// What is told where the rows were given or weren't: the first fault of all code-blocks, whichever it
+/// was that ended the giving, and Shelf where they have none.
+pub(crate) fn told(
     alloc: Global,
-    headers: &Codestream,
-    bytes: &[u8],
-    reduce: u32,
-    step: u32,
-    rows: &mut S,
+    coded: &CodedImage<'_>,
+    given: Result<(), Fault>,
 ) -> Result<(), Fault>
-    requires sound { AreHeaders (length bytes.now) headers.now }
-    requires step { 1 ≤ step }
-    ensures exact { Answers (λ _. tt) result (tested (picture_at headers.now bytes.now reduce))
-        ⊎ ((result ≡ Err Shelf) × (p : Picture) × (picture_at headers.now bytes.now reduce ≡ Ok p)) }
-    ensures taken { OnOk result ((p : Picture) × (picture_at headers.now bytes.now reduce ≡ Ok p)
-        × WereTaken S.took p p.y0 (p.y0 + p.height) rows.old rows.new) }
+    requires fine { IfOk given (λ _. tiles_tested coded.now.bytes coded.now.headers coded.now.reduce
+        (tile_count coded.now.headers.siz) ≡ Ok tt) }
+    requires cause { IfErr given (λ e. IsMemory e ⊎ (e ≡ Shelf) ⊎ HasFaultAt coded.now e) }
+    ensures exact { IsTold result (tiles_tested coded.now.bytes coded.now.headers coded.now.reduce
+        (tile_count coded.now.headers.siz)) }
+    ensures given { OnOk result (given ≡ Ok tt) }
 {
-    let area = check_reduction(headers, reduce)?;
-    let packets = all_packets(alloc, headers, bytes)?;
-    let coded = CodedImage {
-        headers,
-        bytes,
-        packets: &packets,
-        reduce: reduce as u8,
-        area,
-    };
-    match give_rows(alloc, &coded, step, rows) {
+    match given {
         Ok(()) => Ok(()),
         Err(Fault::Memory(refused)) => Err(Fault::Memory(refused)),
         Err(fault) => {
-            judge(alloc, &coded)?;
+            judge(alloc, coded)?;
             Err(fault)
         }
     }
@@ -332,8 +309,8 @@ pub fn decode_rows<S: Rows>(
     ensures taken { OnOk result ((p : Picture) × (meaning_at bytes.now reduce ≡ Ok p) × Means bytes.now reduce p
         × WereTaken S.took p p.y0 (p.y0 + p.height) rows.old rows.new) }
 {
-    let boxed = open(bytes)?;
-    let codestream = &bytes[boxed.start..boxed.end];
-    let headers = read_codestream(alloc, codestream)?;
-    picture_rows(alloc, &headers, codestream, reduce, step, rows)
+    let read = read_image(alloc, bytes, reduce)?;
+    let coded = read.coded(bytes);
+    let given = give_rows(alloc, &coded, step, rows);
+    told(alloc, &coded, given)
 }

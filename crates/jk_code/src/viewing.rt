@@ -1,6 +1,6 @@
 //! Decoding a window.
 
-ghost use Rattle.std.specs.Prelude.{◌≡◌, ℕ, ◌≤◌, ◌<◌, true, List, length, IfOk, IfErr, OnOk, Ok};
+ghost use Rattle.std.specs.Prelude.{◌≡◌, ℕ, ◌≤◌, ◌<◌, true, List, IfOk, IfErr, OnOk, Ok};
 ghost use Rattle.jk_math.specs.Answer.{Answers};
 ghost use Rattle.jk_math.specs.Picture.{Picture};
 ghost use Rattle.jk_math.specs.Lists.{lists_of};
@@ -18,10 +18,11 @@ ghost use Rattle.jk_code.specs.Meaning.{Means};
 ghost use Rattle.jk_code.specs.MeaningReading.{planes_of_tiles};
 ghost use Rattle.jk_code.specs.Tiles.{AreSeen, ArePlanes, KeepsSamples, ShowsTileAt};
 ghost use Rattle.jk_code.specs.Viewing.{picture_of_view};
-ghost use Rattle.jk_code.specs.ViewReading.{seen_part, is_seen, seen_packets_tested, seen_parts_tested, view_at};
+ghost use Rattle.jk_code.specs.ViewReading.{seen_part, is_seen, seen_packets_tested, seen_parts_tested};
 ghost use Rattle.jk_code.specs.ViewReading.{image_view_at, meaning_view_at};
 ghost use Rattle.jk_code.specs.Windows.{IsViewByPlan};
 
+use crate::coded::HeadedBytes;
 use crate::decoding::{blank_planes, put_tile};
 use crate::windows::window;
 use jk_boxes::open;
@@ -48,18 +49,20 @@ pub(crate) fn shown(headers: &Codestream, number: usize, reduce: u8) -> Rect
 /// The packets of the tiles of which a window has samples; of the others none are read.
 fn seen_packets(
     alloc: Global,
-    headers: &Codestream,
-    bytes: &[u8],
+    source: &HeadedBytes<'_>,
     reduce: u8,
     window: &Rect,
 ) -> Result<Vec<Option<TilePackets>>, Fault>
-    requires sound { AreHeaders (length bytes.now) headers.now }
     requires few { reduce ≤ 10 }
     ensures exact { Answers (λ _. tt) result
-        (seen_packets_tested bytes.now headers.now reduce window.now (tile_count headers.now.siz)) }
+        (seen_packets_tested source.now.bytes source.now.headers reduce window.now
+        (tile_count source.now.headers.siz)) }
     ensures read { IfOk result
-        (λ v. AreSeen bytes.now headers.now reduce window.now (tile_count headers.now.siz) v.items) }
+        (λ v. AreSeen source.now.bytes source.now.headers reduce window.now (tile_count source.now.headers.siz)
+        v.items) }
 {
+    let headers = source.headers;
+    let bytes = source.bytes;
     let mut all = Vec::new(alloc);
     for number in 0..headers.tile_count() {
         let packets = if touches(window, &shown(headers, number, reduce)) {
@@ -104,22 +107,25 @@ pub(crate) fn show_tile(
 /// The planes of a window, tile by tile.
 fn window_planes(
     alloc: Global,
-    headers: &Codestream,
-    bytes: &[u8],
+    source: &HeadedBytes<'_>,
     all: &[Option<TilePackets>],
     reduce: u8,
     window: &Rect,
 ) -> Result<Vec<Vec<i32>>, Fault>
-    requires sound { AreHeaders (length bytes.now) headers.now }
-    requires packets { AreSeen bytes.now headers.now reduce window.now (tile_count headers.now.siz) all.now }
-    requires levels { HaveLevels headers.now reduce }
+    requires packets { AreSeen source.now.bytes source.now.headers reduce window.now
+        (tile_count source.now.headers.siz) all.now }
+    requires levels { HaveLevels source.now.headers reduce }
     requires few { reduce ≤ 10 }
     requires window { IsArea window.now }
-    requires inside { IsPartOf window.now (frame_of headers.now reduce) }
+    requires inside { IsPartOf window.now (frame_of source.now.headers reduce) }
     ensures exact { Answers (λ _. tt) result
-        (seen_parts_tested bytes.now headers.now reduce window.now (tile_count headers.now.siz)) }
-    ensures planes { IfOk result (λ v. lists_of v.items ≡ planes_of_tiles bytes.now headers.now reduce window.now) }
+        (seen_parts_tested source.now.bytes source.now.headers reduce window.now
+        (tile_count source.now.headers.siz)) }
+    ensures planes { IfOk result (λ v. lists_of v.items
+        ≡ planes_of_tiles source.now.bytes source.now.headers reduce window.now) }
 {
+    let headers = source.headers;
+    let bytes = source.bytes;
     let none = DecodedBlocks::none(alloc);
     let mut planes = blank_planes(alloc, headers.siz().components, window)?;
     for number in 0..headers.tile_count() {
@@ -137,30 +143,25 @@ fn window_planes(
     Ok(planes)
 }
 
-/// The window of a codestream with these headers.
-#[tactic(auto, unfolding(crate::specs::ViewReading::view_at))]
-fn view_image(alloc: Global, headers: &Codestream, bytes: &[u8], view: View) -> Result<Image, Fault>
-    requires { AreHeaders (length bytes.now) headers.now }
-    ensures { Answers (λ i. i) result (view_at headers.now bytes.now view) }
+/// The window of a codestream.
+#[tactic(auto, unfolding(crate::specs::ViewReading::image_view_at, crate::specs::ViewReading::view_at))]
+fn codestream_view(alloc: Global, bytes: &[u8], view: View) -> Result<Image, Fault>
+    ensures { Answers (λ i. i) result (image_view_at bytes.now view) }
 {
-    let window = window_area(headers, view)?;
+    let headers = read_codestream(alloc, bytes)?;
+    let window = window_area(&headers, view)?;
     let reduce = view.reduce as u8;
-    let packets = seen_packets(alloc, headers, bytes, reduce, &window)?;
-    let planes = window_planes(alloc, headers, bytes, &packets, reduce, &window)?;
+    let source = HeadedBytes {
+        headers: &headers,
+        bytes,
+    };
+    let packets = seen_packets(alloc, &source, reduce, &window)?;
+    let planes = window_planes(alloc, &source, &packets, reduce, &window)?;
     let siz = headers.siz();
     let (width, height) = (window.x1 - window.x0, window.y1 - window.y0);
     Image::new(
         window.x0, window.y0, width, height, siz.depth, siz.signed, planes,
     )
-}
-
-/// The window of a codestream.
-#[tactic(auto, unfolding(crate::specs::ViewReading::image_view_at))]
-fn codestream_view(alloc: Global, bytes: &[u8], view: View) -> Result<Image, Fault>
-    ensures { Answers (λ i. i) result (image_view_at bytes.now view) }
-{
-    let headers = read_codestream(alloc, bytes)?;
-    view_image(alloc, &headers, bytes, view)
 }
 
 /// The window of a file.

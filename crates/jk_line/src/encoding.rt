@@ -139,14 +139,29 @@ fn encode_read<W: World>(
     }
 }
 
-/// How many bytes a file has at least whose image is encoded row by row, where it isn't cut into tiles:
-/// the whole image of a smaller one takes little memory, and less time where rows are short.
+/// How many bytes a file has at least whose image one worker encodes row by row, where it isn't cut
+/// into tiles: the whole image of a smaller one takes little memory, and less time where rows are short.
 const SOME_BYTES: u64 = 1 << 20;
 
-/// Whether the image of a file of so many bytes, if it is known how many, is encoded whole.
-fn is_whole(size: Option<u64>, plan: &Plan) -> bool {
+/// The same for several workers, to whom a small image gives few stripes.
+const MORE_BYTES: u64 = 1 << 22;
+
+/// The same for several workers and other code-blocks than those of 64 by 64: what is done of each
+/// beside its coding, or the rows that wait for the last one of a high one, take more than the whole image.
+const MANY_BYTES: u64 = 1 << 26;
+
+/// Whether so many workers encode the image of a file of so many bytes, if it is known how many, whole.
+fn is_whole(size: Option<u64>, workers: usize, plan: &Plan) -> bool {
+    let parameters = &plan.parameters;
+    let least = if workers == 1 {
+        SOME_BYTES
+    } else if parameters.xcb == 6 && parameters.ycb == 6 {
+        MORE_BYTES
+    } else {
+        MANY_BYTES
+    };
     match size {
-        Some(size) => size < SOME_BYTES && plan.parameters.tile.is_none(),
+        Some(size) => size < least && parameters.tile.is_none(),
         None => false,
     }
 }
@@ -167,7 +182,7 @@ pub(crate) fn encode<W: World>(
         return encode_dressed(alloc, world, line, workers, plan);
     }
     let size = world.size(line.input);
-    if !is_whole(size, &plan) {
+    if !is_whole(size, workers, &plan) {
         return encode_read(alloc, world, line, workers, plan, size);
     }
     if workers > 1 {

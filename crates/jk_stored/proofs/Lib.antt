@@ -1,5 +1,6 @@
 pub mod Forward
 pub mod Held
+pub mod NeededLaws
 pub mod EntryReading
 pub mod StoredWalk
 pub mod OutlineLaws

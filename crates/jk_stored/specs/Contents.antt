@@ -1,25 +1,47 @@
 -- The data of a tile's only part in the codestream of a window.
-use Rattle.std.specs.Prelude.{◌≡◌, ℕ, ◌<◌, ◌≤◌, ◌^◌, Bool, if◌then◌else◌, List, ◌∷◌, ◌++◌, Ok}
+use Rattle.std.specs.Prelude.{◌≡◌, ℕ, ◌<◌, ◌≤◌, ◌^◌, ◌*◌, ◌/◌, ◌%◌, min, length, slice_index_or, Bool, false, if◌then◌else◌, List, ◌∷◌, ◌++◌, Ok}
 use Rattle.std.specs.List.{flat_map, zip}
 use Rattle.jk_math.specs.declared.rect.Rect.{Rect}
 use Rattle.jk_geom.specs.declared.shape.TileShape.{TileShape}
-use Rattle.jk_geom.specs.Rectangles.{meet}
+use Rattle.jk_geom.specs.Rectangles.{is_empty, meet}
 use Rattle.jk_geom.specs.Partitions.{reduced_area}
 use Rattle.jk_params.specs.Headers.{Headers, tile_in}
 use Rattle.jk_stored.specs.Walks.{entries_in}
 use Rattle.jk_geom.specs.declared.shape.PacketName.{PacketName}
-use Rattle.jk_geom.specs.TileShapes.{IsTileShape}
+use Rattle.jk_geom.specs.TileShapes.{IsTileShape, coding_of}
+use Rattle.jk_geom.specs.Precincts.{precincts_across}
+use Rattle.jk_marks.specs.declared.coding.Coding.{Coding}
 use Rattle.jk_order.specs.PacketOrder.{order}
 use Rattle.jk_packet.specs.PacketText.{eph_text}
 use Rattle.jk_walk.specs.declared.entries.PacketEntry.{PacketEntry}
 use Rattle.jk_walk.specs.TilePackets.{slice_of, shape_in}
 use Rattle.jk_walk.specs.Sop.{sop_written}
 use Rattle.jk_window.specs.Cutting.{Entered, wanted}
+use Rattle.jk_window.specs.NeededNumbers.{AreNeeded}
 use Rattle.jk_stored.specs.declared.content.Seen.{Seen}
+use Rattle.jk_stored.specs.declared.needed.NeededIn.{NeededIn}
 
--- a tile of which something may be seen
+-- the coding of the component that a number tells, and the resolution: the highest, where there are fewer
+abbrev pub coding_at : TileShape → (i : ℕ) → Coding
+coding_at s i = coding_of s.codings (i / 11)
+
+abbrev pub resolution_at : TileShape → (i : ℕ) → ℕ
+resolution_at s i = min (i % 11) (coding_at s i).levels
+
+-- what the window needs there of the precincts
+pub record IsNeededIn (s : TileShape) (top : Rect) (d i : ℕ) (x : NeededIn) : Type 0 where
+  pub needed : AreNeeded s.rect (coding_at s i) top d (resolution_at s i) x.precincts
+  pub across : x.across ≡ precincts_across s.rect (coding_at s i) (resolution_at s i)
+
+-- the same of all resolutions of all components
+pub record AreNeededIn (s : TileShape) (top : Rect) (d : ℕ) (xs : List NeededIn) : Type 0 where
+  pub count : length xs ≡ length s.codings * 11
+  pub each : (i : ℕ) (other : NeededIn) → i < length s.codings * 11 → IsNeededIn s top d i (slice_index_or xs i other)
+
+-- a tile, and what is needed of it where something of it is seen
 pub record IsSeen (s : Seen) : Type 0 where
   pub shape : IsTileShape s.shape.now
+  pub needed : is_empty s.top ≡ false → AreNeededIn s.shape.now s.top s.reduce s.needed.now
   pub right : s.top.x1 < 2 ^ 31
   pub lower : s.top.y1 < 2 ^ 31
   pub few : s.reduce ≤ 10

@@ -11,11 +11,11 @@ ghost use Rattle.jk_stored.specs.Hands.{IsHeld};
 ghost use Rattle.jk_stored.specs.Contents.{IsSeen, is_kept, packet_of, content_of};
 
 use crate::hand::Hand;
+use crate::needed::{NeededIn, RESOLUTIONS};
 use crate::stored::Stored;
 use jk_geom::{PacketName, TileShape, is_empty};
 use jk_math::{Fault, Rect};
 use jk_walk::PacketEntry;
-use jk_window::needs;
 
 /// A tile, and what of it a window sees.
 #[derive(Clone, Copy)]
@@ -26,6 +26,8 @@ pub(crate) struct Seen<'a> {
     /// The window, as far as the reduced tile has it.
     pub(crate) top: Rect,
     pub(crate) reduce: u8,
+    /// What it needs of the resolutions of the components.
+    pub(crate) needed: &'a [NeededIn],
 }
 
 /// Whether the window needs the precinct of a packet.
@@ -34,19 +36,12 @@ fn is_kept(seen: &Seen<'_>, name: PacketName) -> bool
     requires name { IsName seen.now.shape.now name }
     ensures { result ≡ is_kept seen.now name }
 {
-    let shape = seen.shape;
     if is_empty(&seen.top) {
         return false;
     }
-    let coding = &shape.codings.as_slice()[name.component as usize];
-    needs(
-        &shape.rect,
-        coding,
-        &seen.top,
-        seen.reduce,
-        name.resolution,
-        name.precinct,
-    )
+    let number = name.component as usize * RESOLUTIONS + name.resolution as usize;
+    let needed = &seen.needed[number];
+    needed.precincts.has(needed.across, name.precinct)
 }
 
 /// Appends the bytes of a stored codestream from a place up to another.

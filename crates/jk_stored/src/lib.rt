@@ -8,6 +8,7 @@ mod entries;
 mod hand;
 mod making;
 mod memory;
+mod needed;
 mod outline;
 mod place;
 mod precincts;

@@ -16,6 +16,7 @@ ghost use Rattle.jk_stored.specs.Making.{Made, made_text, no_size, IsMade, data_
 use crate::content::{Seen, content_size, put_due};
 use crate::entries::read_entries;
 use crate::hand::Hand;
+use crate::needed::needed_in;
 use crate::outline::{Outline, PartSize};
 use crate::stored::Stored;
 use jk_geom::{meet, reduced};
@@ -144,11 +145,14 @@ fn put_tile<S: Stored>(
     let entries = read_entries(alloc, sources.stored, &shape, markers, part, hand)?;
     let names = packet_names(alloc, &shape)?;
     let Sight { window, reduce } = sources.sight;
+    let top = meet(&window, &reduced(&shape.rect, reduce));
+    let needed = needed_in(alloc, &shape, &top, reduce)?;
     let seen = Seen {
         shape: &shape,
         eph: cod.eph,
-        top: meet(&window, &reduced(&shape.rect, reduce)),
+        top,
         reduce,
+        needed: &needed,
     };
     let due = content_size(&seen, &names, &entries);
     put_head(head, due, out)?;

@@ -8,7 +8,7 @@ use Rattle.jk_marks.specs.declared.coding.Coding.{Coding}
 use Rattle.jk_math.specs.declared.orientation.Orientation.{Orientation}
 use Rattle.jk_math.specs.declared.orientation.Orientation.TheVariants.{LL, HL, LH, HH}
 use Rattle.jk_geom.specs.Rectangles.{ceil_div, band_area}
-use Rattle.jk_geom.specs.Precincts.{precincts_across, precincts_down, part_width}
+use Rattle.jk_geom.specs.Precincts.{precincts_across, precincts_down, precinct_number, part_width}
 use Rattle.jk_geom.proofs.Laws.{ceil_least, ceil_mono, ceil_covers, cell_one, raster_column, raster_row}
 use Rattle.std.specs.Prelude.{◌||◌, nat_lt}
 use Rattle.jk_window.specs.declared.rows.NeededPrecincts.{NeededPrecincts}
@@ -273,3 +273,18 @@ row_covered x i j h = elim (in_only x i j h) [
   | inl here ↦ hull_has (x.high.y0, x.high.y1) (x.low.y0, x.low.y1) j (inr here.0)
   | inr here ↦ hull_has (x.high.y0, x.high.y1) (x.low.y0, x.low.y1) j (inl here.0)
 ]
+
+-- ---- so whether a precinct is needed is seen by its row and column
+
+same_truth : (p q : Bool) → (p ≡ true → q ≡ true) → (q ≡ true → p ≡ true) → p ≡ q
+same_truth true q f g = sym (f refl)
+same_truth false true f g = g refl
+same_truth false false f g = refl
+
+pub has_needs : (a : Rect) (k : Coding) (u : Rect) (d r n : ℕ) (x : NeededPrecincts) → AreNeeded a k u d r x → n < precinct_number a k r
+    → is_in (columns_in x (n / precincts_across a k r)) (n % precincts_across a k r) ≡ needs a k u d r n
+has_needs a k u d r n x are less =
+    let w = precincts_across a k r in
+    same_truth (is_in (columns_in x (n / w)) (n % w)) (needs a k u d r n)
+    (λ e. (are n less).1 (in_is (columns_in x (n / w)) (n % w) e))
+    (λ e. is_in_from (columns_in x (n / w)) (n % w) ((are n less).0 e))

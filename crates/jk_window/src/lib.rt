@@ -28,6 +28,7 @@ pub use kept::Index;
 pub use need::needs;
 pub use planning::plan;
 pub use reading::index;
+pub use rows::{NeededPrecincts, needed_precincts};
 pub use steps::{CutPlan, CutStep};
 pub use theorems::{
     emptied_codestreams_are_codestreams, emptied_tiles_are_tiles, stretches_hold_what_is_near,

@@ -3,7 +3,10 @@
 ghost use Rattle.std.specs.Prelude.{◌≡◌, ◌≤◌, ◌+◌, ◌*◌, ◌<◌, ◌^◌, ℕ};
 ghost use Rattle.jk_marks.specs.Coding.{IsCoding};
 ghost use Rattle.jk_geom.specs.Rectangles.{IsArea};
-ghost use Rattle.jk_geom.specs.Precincts.{precincts_across, precincts_down};
+ghost use Rattle.jk_geom.specs.Precincts.{precincts_across, precincts_down, precinct_number};
+ghost use Rattle.jk_math.specs.declared.rect.Rect.{Rect as Area};
+ghost use Rattle.jk_marks.specs.declared.coding.Coding.{Coding as CodingOf};
+ghost use Rattle.jk_window.specs.Needs.{needs};
 ghost use Rattle.jk_window.specs.NeededNumbers.{IsIn, is_in, columns_in, rows_in, AreNeeded, numbers_in, AreNeededNumbers};
 
 use crate::cells::{band_cells, hull};
@@ -13,7 +16,7 @@ use jk_math::{Orientation, Rect};
 
 /// The precincts of a resolution that a stretch needs: an interval of columns for each row.
 #[derive(Clone, Copy, Debug)]
-pub(crate) struct NeededPrecincts {
+pub struct NeededPrecincts {
     /// Those with places of HL, by columns and rows.
     high: Rect,
     /// Those with places of LH, or of LL at the lowest resolution.
@@ -46,6 +49,15 @@ impl NeededPrecincts {
         ensures covers { (i j : ℕ) → IsIn (columns_in self.now j) i → IsIn result j }
     {
         hull((self.high.y0, self.high.y1), (self.low.y0, self.low.y1))
+    }
+
+    /// Whether a precinct of the resolution is needed, where rows have so many.
+    pub fn has(&self, across: u32, number: u32) -> bool
+        requires { 0 < across }
+        ensures { (a : Area) (k : CodingOf) (u : Area) (d r : ℕ) → AreNeeded a k u d r self.now
+            → across ≡ precincts_across a k r → number < precinct_number a k r → result ≡ needs a k u d r number }
+    {
+        is_in(self.columns(number / across), number % across)
     }
 
     /// How many columns a row has at most.
@@ -82,7 +94,7 @@ impl NeededPrecincts {
 
 /// The precincts of resolution `r` that a stretch `top` of a tile-component needs, which is reduced
 /// by `reduce` levels.
-pub(crate) fn needed_precincts(
+pub fn needed_precincts(
     rect: &Rect,
     coding: &Coding,
     top: &Rect,

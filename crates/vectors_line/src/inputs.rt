@@ -122,13 +122,19 @@ fn reads_row_by_row_what_it_reads_whole(rt: HostRuntime) {
     }
 }
 
-/// How many bytes the file of a pixel has, on both sides of what one worker encodes whole, options, and
-/// how many files are read as they are encoded.
-static SIZES: [(usize, &str, usize); 6] = [
+/// The coding style of code-blocks of 32 by 64 without levels.
+static NARROW: &str = "FF52 000C 00 00 0001 00 00 03 04 00 01";
+
+/// How many bytes the file of a pixel has, on both sides of what is encoded whole, options, and how
+/// many files are read as they are encoded.
+static SIZES: [(usize, &str, usize); 9] = [
     (1_048_575, "", 0),
     (1_048_575, "--workers 2", 0),
     (1_048_576, "", 1),
-    (1_048_576, "--workers 2", 1),
+    (1_048_576, "--workers 2", 0),
+    (4_194_303, "--workers 2", 0),
+    (4_194_304, "--workers 2", 1),
+    (4_194_304, "--workers 2 --block-x 5", 0),
     (100, "--tile-width 1 --tile-height 1", 1),
     (100, "--tile-width 1 --tile-height 1 --workers 2", 1),
 ];
@@ -137,7 +143,6 @@ static SIZES: [(usize, &str, usize); 6] = [
 #[test]
 fn sizes_and_tiles_say_how_a_file_is_read(rt: HostRuntime) {
     let alloc = rt.alloc();
-    let due = bytes(&rt, alloc, &pixel());
     let end = bytes(&rt, alloc, &["0A", GREY]);
     for (size, options, count) in SIZES {
         let mut image = bytes(&rt, alloc, &["50350A23"]);
@@ -147,6 +152,11 @@ fn sizes_and_tiles_say_how_a_file_is_read(rt: HostRuntime) {
         image
             .extend_from_slice(&end[end.len().saturating_sub(10)..])
             .expect(&rt, "an image");
+        let mut due = pixel();
+        if options.ends_with("--block-x 5") {
+            due[3] = NARROW;
+        }
+        let due = bytes(&rt, alloc, &due);
         let mut world = world_with(&rt, alloc, &image);
         let line = format!(in alloc; "encode in out --levels 0 {options}").expect(&rt, "a text");
         check_done(&rt, &mut world, line.as_str(), &due, count);

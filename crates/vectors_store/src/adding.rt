@@ -1,10 +1,12 @@
 //! Images added to an archive.
 
 use crate::asserts::{equal, equal_at};
-use crate::calls::{is_page, plain, read, refusal, refusal_with, with_levels};
+use crate::calls::{
+    add, archive_of, bytes, is_page, joined, listed, open, plain, read, refusal, refusal_with,
+    shelf_of, skipped, with_levels,
+};
 use crate::contents::Content;
 use crate::shelves::{Act, act_at};
-use crate::sure::{add, archive_of, bytes, joined, listed, open, shelf_of, skipped};
 use jk_math::Fault;
 use jk_params::Container;
 use jk_store::Shelf;
@@ -31,7 +33,7 @@ fn an_image_added(rt: HostRuntime) {
 fn refused(rt: &impl Abort, alloc: Global, name: &str) -> (Option<Fault>, usize) {
     let mut archive = archive_of(rt, alloc, &[("a.jp2", Content::Page)]);
     let raw = plain(alloc, Container::Raw);
-    let answer = refusal_with(&mut archive, alloc, name, &raw);
+    let answer = refusal_with(rt, &mut archive, alloc, name, &raw);
     (answer, archive.list().len())
 }
 
@@ -68,7 +70,7 @@ fn refused_names(rt: HostRuntime) {
 fn added_twice(rt: &impl Abort, alloc: Global, sample: i32) -> (Option<Fault>, String) {
     let mut archive = archive_of(rt, alloc, &[("b.jp2", Content::Page)]);
     add(rt, &mut archive, alloc, "a", 128);
-    let answer = refusal(&mut archive, alloc, "a", sample);
+    let answer = refusal(rt, &mut archive, alloc, "a", sample);
     (answer, listed(rt, &archive, alloc))
 }
 
@@ -76,9 +78,9 @@ fn added_twice(rt: &impl Abort, alloc: Global, sample: i32) -> (Option<Fault>, S
 /// listed then; and whether that file is as it was.
 fn added_over(rt: &impl Abort, alloc: Global) -> (Option<Fault>, String, Result<bool, Fault>) {
     let mut archive = archive_of(rt, alloc, &[("a.jp2", Content::Page)]);
-    let answer = refusal(&mut archive, alloc, "a", 129);
+    let answer = refusal(rt, &mut archive, alloc, "a", 129);
     let names = listed(rt, &archive, alloc);
-    let same = is_page(alloc, read(&mut archive.into_shelf(), alloc, "a.jp2"));
+    let same = is_page(rt, alloc, read(&mut archive.into_shelf(), alloc, "a.jp2"));
     (answer, names, same)
 }
 
@@ -101,7 +103,7 @@ fn taken_files(rt: HostRuntime) {
 /// Why so many levels are refused, and how many images are listed then.
 fn refused_levels(rt: &impl Abort, alloc: Global, levels: u8) -> (Option<Fault>, usize) {
     let mut archive = archive_of(rt, alloc, &[]);
-    let answer = refusal_with(&mut archive, alloc, "a", &with_levels(alloc, levels));
+    let answer = refusal_with(rt, &mut archive, alloc, "a", &with_levels(alloc, levels));
     (answer, archive.list().len())
 }
 
@@ -141,7 +143,7 @@ fn renamed(rt: &impl Abort, alloc: Global) -> (Option<Fault>, usize, usize) {
     // The calls are: list, write, rename.
     let shelf = act_at(shelf_of(rt, alloc, &[]), 3, Act::Fail);
     let mut archive = open(rt, alloc, shelf);
-    let answer = refusal(&mut archive, alloc, "a", 128);
+    let answer = refusal(rt, &mut archive, alloc, "a", 128);
     let before = archive.list().len();
     add(rt, &mut archive, alloc, "a", 128);
     (answer, before, archive.list().len())
@@ -166,7 +168,7 @@ fn added_at(
     // The calls of the opening are: list, read.
     let shelf = shelf_of(rt, alloc, &[("a.jp2", Content::Page)]);
     let mut archive = open(rt, alloc, act_at(shelf, call.saturating_add(2), Act::Fail));
-    let answer = refusal_with(&mut archive, alloc, name, &with_levels(alloc, levels));
+    let answer = refusal_with(rt, &mut archive, alloc, name, &with_levels(alloc, levels));
     let is_listed = archive.list().len() == 2;
     (answer, is_listed, archive.into_shelf().failures())
 }

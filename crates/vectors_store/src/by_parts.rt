@@ -1,9 +1,10 @@
 //! Windows of a large file, of which only the parts are read that they need.
 
 use crate::asserts::{equal, equal_at};
-use crate::calls::{add_noise, by_kept_parts, by_parts, entry_whole, entry_window, read, square};
+use crate::calls::{
+    add_noise, by_kept_parts, by_parts, entry_whole, entry_window, open, put, read, square, write,
+};
 use crate::shelves::{Act, act_at};
-use crate::sure::{open, put, write};
 use jk_math::Fault;
 use jk_store::{Archive, Entry, HashedParts, MemoryShelf, Shelf};
 use jk_window::View;
@@ -20,7 +21,7 @@ struct Noise {
 
 fn made(rt: &impl Abort, alloc: Global) -> Noise {
     let mut archive = open(rt, alloc, MemoryShelf::new(alloc));
-    add_noise(&mut archive, alloc, "n").expect(rt, "an image");
+    add_noise(rt, &mut archive, alloc, "n");
     let mut shelf = archive.into_shelf();
     let file = read(&mut shelf, alloc, "n.jp2").expect(rt, "a file");
     Noise {
@@ -46,6 +47,14 @@ fn with_file(rt: &impl Abort, alloc: Global, name: &str, bytes: &[u8]) -> Memory
 fn due(rt: &impl Abort, alloc: Global, noise: &Noise, asked: View) -> Vec<u8> {
     let mut shelf = with_file(rt, alloc, "n.jp2", &noise.file);
     entry_window(noise.entry(rt), alloc, &mut shelf, asked).expect(rt, "a window")
+}
+
+/// Whether what was made is this window, or why it wasn't made.
+fn is_window(made: Result<Vec<u8>, Fault>, window: &[u8]) -> Result<bool, Fault> {
+    match made {
+        Ok(made) => Ok(made.as_slice() == window),
+        Err(fault) => Err(fault),
+    }
 }
 
 /// Whether the window is what is cut of the whole file; and how many stretches of how many bytes
@@ -80,34 +89,45 @@ fn turned(rt: &impl Abort, alloc: Global, file: &[u8], part: usize) -> Vec<u8> {
     bytes
 }
 
+/// What is said of the window and of the whole of a file in which one part has changed.
+fn with_turned(
+    rt: &impl Abort,
+    alloc: Global,
+    noise: &Noise,
+    part: usize,
+    asked: View,
+    window: &[u8],
+) -> (Result<bool, Fault>, Option<Fault>) {
+    let bytes = turned(rt, alloc, &noise.file, part);
+    let mut shelf = with_file(rt, alloc, "n.jp2", &bytes);
+    let entry = noise.entry(rt);
+    let answer = is_window(by_parts(entry, alloc, &mut shelf, asked), window);
+    (answer, entry_whole(entry, alloc, &mut shelf).err())
+}
+
+/// One more where that is so.
+fn one_more(count: u64, is_so: bool) -> u64 {
+    if is_so {
+        count.saturating_add(1)
+    } else {
+        count
+    }
+}
+
 /// How many of the files in which one part has changed give the window as it was, how many are told
 /// to have changed where the window is asked for, and how many where the whole is.
 fn with_each_turned(rt: &impl Abort, alloc: Global, noise: &Noise, asked: View) -> (u64, u64, u64) {
-    let entry = noise.entry(rt);
     let window = due(rt, alloc, noise, asked);
-    let mut same = 0u64;
-    let mut changed = 0u64;
-    let mut wholes = 0u64;
-    for part in 0..entry.parts.len() {
-        let bytes = turned(rt, alloc, &noise.file, part);
-        let mut shelf = with_file(rt, alloc, "n.jp2", &bytes);
-        match by_parts(entry, alloc, &mut shelf, asked) {
-            Ok(made) => {
-                if made.as_slice() == window.as_slice() {
-                    same = same.saturating_add(1);
-                }
-            }
-            Err(fault) => {
-                if fault == Fault::Changed {
-                    changed = changed.saturating_add(1);
-                }
-            }
-        }
-        if entry_whole(entry, alloc, &mut shelf).err() == Some(Fault::Changed) {
-            wholes = wholes.saturating_add(1);
-        }
+    let mut counts = (0u64, 0u64, 0u64);
+    for part in 0..noise.entry(rt).parts.len() {
+        let (answer, whole) = with_turned(rt, alloc, noise, part, asked, &window);
+        counts = (
+            one_more(counts.0, answer == Ok(true)),
+            one_more(counts.1, answer == Err(Fault::Changed)),
+            one_more(counts.2, whole == Some(Fault::Changed)),
+        );
     }
-    (same, changed, wholes)
+    counts
 }
 
 /// A file that has changed in a part that is read is told; one that has changed elsewhere gives the
@@ -285,10 +305,7 @@ fn of_length(
     let window = due(rt, alloc, noise, asked);
     let mut shelf = with_file(rt, alloc, "n.jp2", &bytes);
     let entry = noise.entry(rt);
-    let answer = match by_parts(entry, alloc, &mut shelf, asked) {
-        Ok(made) => Ok(made.as_slice() == window.as_slice()),
-        Err(fault) => Err(fault),
-    };
+    let answer = is_window(by_parts(entry, alloc, &mut shelf, asked), &window);
     let all = entry_whole(entry, alloc, &mut shelf).err();
     (answer, all, shelf.failures())
 }
@@ -341,10 +358,7 @@ fn failing_at(
     call: u64,
 ) -> (Result<bool, Fault>, u64) {
     let mut shelf = act_at(with_file(rt, alloc, "n.jp2", &noise.file), call, Act::Fail);
-    let answer = match by_parts(noise.entry(rt), alloc, &mut shelf, asked) {
-        Ok(made) => Ok(made.as_slice() == window),
-        Err(fault) => Err(fault),
-    };
+    let answer = is_window(by_parts(noise.entry(rt), alloc, &mut shelf, asked), window);
     (answer, shelf.failures())
 }
 

@@ -3,9 +3,9 @@
 //! bytes, of which the tests touch little.
 
 use crate::asserts::equal_at;
+use crate::calls::{bytes, open, put};
 use crate::contents::Content;
 use crate::shelves::{Roomed, Roomy};
-use crate::sure::{bytes, open, put};
 use sha2::{Digest, Sha256};
 use std::alloc::Global;
 use std::process::Abort;

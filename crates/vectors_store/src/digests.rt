@@ -1,7 +1,7 @@
 //! SHA-256, against worked examples and the library's, which takes one block after another.
 
 use crate::asserts::{equal, equal_at};
-use crate::sure::put;
+use crate::calls::put;
 use jk_digest::{sha256, sha256_of_four};
 use sha2::{Digest, Sha256};
 use std::alloc::Global;

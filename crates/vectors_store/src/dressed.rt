@@ -1,9 +1,8 @@
 //! Images added with what their files are to keep beside the samples.
 
 use crate::asserts::equal_at;
-use crate::calls::{add_dressed, read};
+use crate::calls::{add_dressed, archive_of, bytes, listed, open, read};
 use crate::contents::Content;
-use crate::sure::{archive_of, bytes, listed, open};
 use jk_extras::{Colour, Extras, Other};
 use jk_math::Fault;
 use std::alloc::Global;
@@ -44,7 +43,7 @@ fn added(
 ) -> (Option<Fault>, &'static str, usize) {
     let mut archive = archive_of(rt, alloc, &[("b.jp2", Content::Page)]);
     let extras = asked(rt, alloc, profile);
-    let fault = add_dressed(&mut archive, alloc, name, levels, &extras).err();
+    let fault = add_dressed(rt, &mut archive, alloc, name, levels, &extras).err();
     let mut shelf = archive.into_shelf();
     let file = kept_as(rt, alloc, read(&mut shelf, alloc, "a.jp2"));
     let again = open(rt, alloc, shelf);
@@ -76,7 +75,7 @@ fn its_entry_is_that_of_its_file(rt: HostRuntime) {
     let alloc = rt.alloc();
     let mut archive = archive_of(&rt, alloc, &[]);
     let extras = asked(&rt, alloc, None);
-    let entry = add_dressed(&mut archive, alloc, "a", 0, &extras).expect(&rt, "an image");
+    let entry = add_dressed(&rt, &mut archive, alloc, "a", 0, &extras).expect(&rt, "an image");
     let names = listed(&rt, &archive, alloc);
     let again = open(&rt, alloc, archive.into_shelf());
     let mut same = false;

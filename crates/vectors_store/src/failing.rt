@@ -1,12 +1,13 @@
 //! Shelves that fail at one call.
 
 use crate::asserts::{equal, equal_at};
-use crate::calls::{is_page, open, read, refusal, view, whole, window};
+use crate::calls::{
+    self, add, is_page, joined, listed, read, refusal, rename, shelf_of, view, whole, window,
+};
 use crate::contents::Content;
 use crate::shelves::{Act, Acting, act_at};
-use crate::sure::{add, joined, listed, shelf_of};
 use jk_math::Fault;
-use jk_store::{Archive, Finding, MemoryShelf, Shelf, check};
+use jk_store::{Archive, Finding, Shelf, check};
 use std::alloc::Global;
 use std::process::Abort;
 use std::thread::Threads;
@@ -19,7 +20,7 @@ fn opened(rt: &impl Abort, alloc: Global, call: u64) -> Result<Archive<Acting>, 
         ("c.jp2", Content::Page),
     ];
     let shelf = shelf_of(rt, alloc, &files);
-    open(alloc, act_at(shelf, call, Act::Fail))
+    calls::opened(alloc, act_at(shelf, call, Act::Fail))
 }
 
 /// How many images are listed, or why none is.
@@ -45,7 +46,7 @@ fn opening(rt: HostRuntime) {
 /// failed.
 fn adding_at(rt: &impl Abort, alloc: Global, call: u64) -> (Option<Fault>, String, u64) {
     let mut archive = opened(rt, alloc, call).expect(rt, "an archive");
-    let answer = refusal(&mut archive, alloc, "d", 129);
+    let answer = refusal(rt, &mut archive, alloc, "d", 129);
     let before = listed(rt, &archive, alloc);
     add(rt, &mut archive, alloc, "d", 129);
     let after = listed(rt, &archive, alloc);
@@ -125,7 +126,7 @@ fn reading_at(
     } else {
         window(&mut archive, alloc, "c", view(0, 1))
     };
-    let second = is_page(alloc, whole(&mut archive, alloc, "a"));
+    let second = is_page(rt, alloc, whole(&mut archive, alloc, "a"));
     (first.err(), second, archive.into_shelf().failures())
 }
 
@@ -135,10 +136,6 @@ fn reading(rt: HostRuntime) {
         let answer = reading_at(&rt, rt.alloc(), whole_first);
         equal(&rt, answer, (Some(Fault::Shelf), Ok(true), 1));
     }
-}
-
-fn rename(shelf: &mut MemoryShelf, alloc: Global, from: &str, to: &str) -> Option<Fault> {
-    shelf.rename(alloc, from, to).err()
 }
 
 /// The faults of calls with names that no file has, and with names that one has; and how many

@@ -1,10 +1,9 @@
 //! Which fault ends the opening of an archive where files wait for their digests.
 
 use crate::asserts::{equal, equal_at};
-use crate::calls::open;
+use crate::calls::{bytes, opened, write};
 use crate::contents::Content;
 use crate::shelves::{Act, Many, act_at};
-use crate::sure::{bytes, write};
 use jk_math::Fault;
 use jk_store::MemoryShelf;
 use std::alloc::Global;
@@ -20,7 +19,7 @@ fn unread_behind(rt: &impl Abort, alloc: Global, count: u64) -> Option<Fault> {
     }
     // Behind the listing and as many reads.
     let failing = act_at(shelf, count.saturating_add(2), Act::Fail);
-    open(alloc, failing).err()
+    opened(alloc, failing).err()
 }
 
 #[test]
@@ -44,7 +43,7 @@ fn too_many(rt: &impl Abort, alloc: Global) -> Option<Fault> {
         room: (1 << 25) + 1,
         bytes: bytes(rt, alloc, Content::Page),
     };
-    open(alloc, shelf).err()
+    opened(alloc, shelf).err()
 }
 
 #[test]

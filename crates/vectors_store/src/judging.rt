@@ -2,9 +2,9 @@
 //! weren't read.
 
 use crate::asserts::{equal, equal_at};
+use crate::calls::{add, listed, open, shelf_of};
 use crate::contents::Content;
 use crate::shelves::{Act, act_at, alike};
-use crate::sure::{add, listed, open, shelf_of};
 use jk_math::Fault;
 use jk_store::{Archive, Images, judge_name};
 use std::alloc::Global;

@@ -47,5 +47,3 @@ mod refusals;
 mod serving;
 #[cfg(test)]
 mod shelves;
-#[cfg(test)]
-mod sure;

@@ -1,10 +1,9 @@
 //! How many images an archive may have.
 
 use crate::asserts::equal;
-use crate::calls::{self, add_prepared, plain, refusal_with};
+use crate::calls::{self, add_prepared, bytes, open, plain, prepared, refusal_with};
 use crate::contents::Content;
 use crate::shelves::alike;
-use crate::sure::{bytes, open, prepared};
 use jk_math::Fault;
 use jk_params::Container;
 use std::alloc::Global;
@@ -16,9 +15,9 @@ fn add_to_full(rt: &impl Abort, alloc: Global) -> ([Option<Fault>; 6], usize) {
     let raw = plain(alloc, Container::Raw);
     let mut archive = open(rt, alloc, alike(4096, bytes));
     let faults = [
-        refusal_with(&mut archive, alloc, "A", &raw),
-        refusal_with(&mut archive, alloc, "4095", &raw),
-        refusal_with(&mut archive, alloc, "4096", &raw),
+        refusal_with(rt, &mut archive, alloc, "A", &raw),
+        refusal_with(rt, &mut archive, alloc, "4095", &raw),
+        refusal_with(rt, &mut archive, alloc, "4096", &raw),
         add_prepared(&mut archive, alloc, prepared(rt, alloc, "A", &raw, None)).err(),
         add_prepared(&mut archive, alloc, prepared(rt, alloc, "4095", &raw, None)).err(),
         add_prepared(&mut archive, alloc, prepared(rt, alloc, "4096", &raw, None)).err(),
@@ -43,7 +42,7 @@ fn full_archives(rt: HostRuntime) {
 /// Why an archive of so many images can't be opened.
 fn opened(rt: &impl Abort, alloc: Global, count: u16) -> Option<Fault> {
     let bytes = bytes(rt, alloc, Content::Page);
-    calls::open(alloc, alike(count, bytes)).err()
+    calls::opened(alloc, alike(count, bytes)).err()
 }
 
 #[test]

@@ -1,10 +1,9 @@
 //! Files that are opened one by one, and listed by an archive that is there already.
 
 use crate::asserts::{equal, equal_at};
-use crate::calls::whole;
+use crate::calls::{bytes, shelf_of, whole};
 use crate::contents::Content;
 use crate::shelves::{Act, act_at};
-use crate::sure::{bytes, shelf_of};
 use jk_math::Fault;
 use jk_store::{Archive, Images, Prepared, Shelf, image_name};
 use std::alloc::Global;

@@ -1,15 +1,14 @@
 //! An archive served over loopback.
 
 use crate::asserts::equal;
-use crate::calls::archive_of;
+use crate::calls::{archive_of, bytes, put};
 use crate::contents::Content;
-use jk_math::Fault;
 use jk_store::{Archive, MemoryShelf};
 use jk_web::{End, run};
 use std::alloc::Global;
 use std::io::{Read, Write};
 use std::net::{TcpListener, TcpStream};
-use std::test::Fail;
+use std::process::Abort;
 use std::{io, thread};
 
 /// What is sent on the first connection: two requests at once, of which the second one closes.
@@ -45,37 +44,37 @@ fn asked_twice(rt: &HostRuntime, port: u16) -> io::Result<(Vec<u8>, Vec<u8>)> {
 
 /// Serves a connection, and says how it ended.
 fn attend(
+    rt: &impl Abort,
     alloc: Global,
     listener: &TcpListener,
     archive: &mut Archive<MemoryShelf>,
-) -> Result<End, Fail> {
-    let (stream, _) = listener.accept()?;
-    Ok(run(alloc, &mut &stream, &mut &stream, archive, 100)?)
+) -> End {
+    let (stream, _) = listener.accept().expect(rt, "a connection");
+    run(alloc, &mut &stream, &mut &stream, archive, 100).expect(rt, "a connection")
 }
 
 /// The replies on the first connection.
-fn replied(alloc: Global) -> Result<Vec<u8>, Fault> {
+fn replied(rt: &impl Abort, alloc: Global) -> Vec<u8> {
     let mut due = Vec::new(alloc);
-    due.extend_from_slice(REPLIED.as_bytes())?;
-    due.extend_from_slice(&Content::Page.bytes(alloc)?)?;
-    Ok(due)
+    put(rt, &mut due, REPLIED.as_bytes());
+    put(rt, &mut due, &bytes(rt, alloc, Content::Page));
+    due
 }
 
 #[test]
-fn two_connections(rt: HostRuntime) -> Result<(), Fail> {
+fn two_connections(rt: HostRuntime) {
     let alloc = rt.alloc();
-    let mut archive = archive_of(alloc, &[("a.jp2", Content::Page)])?;
-    let listener = TcpListener::bind(&rt, ("127.0.0.1", 0))?;
-    let port = listener.local_addr()?.port();
-    let client = thread::spawn(&rt, move || asked_twice(&rt, port))?;
+    let mut archive = archive_of(&rt, alloc, &[("a.jp2", Content::Page)]);
+    let listener = TcpListener::bind(&rt, ("127.0.0.1", 0)).expect(&rt, "a listener");
+    let port = listener.local_addr().expect(&rt, "an address").port();
+    let client = thread::spawn(&rt, move || asked_twice(&rt, port)).expect(&rt, "a client");
     let ends = [
-        attend(alloc, &listener, &mut archive)?,
-        attend(alloc, &listener, &mut archive)?,
+        attend(&rt, alloc, &listener, &mut archive),
+        attend(&rt, alloc, &listener, &mut archive),
     ];
-    let (first, second) = client.join(&rt)?;
-    let due = replied(alloc)?;
+    let (first, second) = client.join(&rt).expect(&rt, "replies");
+    let due = replied(&rt, alloc);
     equal(&rt, ends, [End::Closed, End::Closed]);
     equal(&rt, first.as_slice(), due.as_slice());
     equal(&rt, second.as_slice(), REFUSED.as_bytes());
-    Ok(())
 }

@@ -1,11 +1,10 @@
 //! Archives that several workers open, against those that are opened by one thread.
 
 use crate::asserts::{equal, equal_at};
-use crate::calls::open_with;
+use crate::calls::{bytes, listed, open, open_with, put, skipped, write};
 use crate::contents::Content;
 use crate::digested::noted;
 use crate::shelves::{Act, Acting, act_at, alike};
-use crate::sure::{bytes, listed, open, put, skipped, write};
 use jk_jobs::{Gate, Open};
 use jk_math::Fault;
 use jk_store::{Archive, Images, MemoryShelf, Shelf};

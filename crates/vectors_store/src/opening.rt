@@ -1,9 +1,10 @@
 //! Archives opened.
 
 use crate::asserts::equal;
-use crate::calls::{is_page, whole};
+use crate::calls::{
+    add, archive_of, bytes, is_page, joined, listed, open, put, shelf_of, skipped, whole, write,
+};
 use crate::contents::Content;
-use crate::sure::{add, archive_of, bytes, joined, listed, open, put, shelf_of, skipped, write};
 use jk_math::Fault;
 use jk_store::MemoryShelf;
 use std::alloc::Global;
@@ -61,8 +62,8 @@ fn found(rt: &impl Abort, alloc: Global) -> [Result<bool, Fault>; 2] {
     add(rt, &mut archive, alloc, "b", 127);
     add(rt, &mut archive, alloc, "a", 128);
     let mut again = open(rt, alloc, archive.into_shelf());
-    let first = is_page(alloc, whole(&mut again, alloc, "a"));
-    let second = is_page(alloc, whole(&mut again, alloc, "b"));
+    let first = is_page(rt, alloc, whole(&mut again, alloc, "a"));
+    let second = is_page(rt, alloc, whole(&mut again, alloc, "b"));
     [first, second]
 }
 

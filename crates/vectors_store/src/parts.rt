@@ -1,8 +1,8 @@
 //! Digests of the parts of a file.
 
 use crate::asserts::equal;
+use crate::calls::{archive_of, bytes, open, put, write};
 use crate::contents::Content;
-use crate::sure::{archive_of, bytes, open, put, write};
 use jk_store::{Archive, Entry, MemoryShelf};
 use std::alloc::Global;
 use std::process::Abort;

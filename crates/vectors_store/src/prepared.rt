@@ -1,11 +1,13 @@
 //! Images that are encoded first, and then stored or added.
 
 use crate::asserts::{equal, equal_at};
-use crate::calls::{add_prepared, is_page, plain, read, store, with_levels};
+use crate::calls::{
+    add, add_prepared, archive_of, bytes, encoded, is_page, listed, open, plain, prepared, read,
+    shelf_of, store, with_levels,
+};
 use crate::contents::Content;
 use crate::dressed::asked;
 use crate::shelves::{Act, act_at};
-use crate::sure::{add, archive_of, bytes, encoded, listed, open, prepared, shelf_of};
 use jk_math::Fault;
 use jk_params::Container;
 use jk_store::{Encoded, MemoryShelf, Shelf, added_text, refused_text};
@@ -114,8 +116,8 @@ fn stored(
     let mut shelf = act_at(shelf, call, Act::Fail);
     let fault = store(image, alloc, &mut shelf).err();
     let name = format!(in alloc; "{}.jp2", image.name()).expect(rt, "a name");
-    let file = is_page(alloc, read(&mut shelf, alloc, name.as_str())).ok();
-    let other = is_page(alloc, read(&mut shelf, alloc, "b.jp2")).ok();
+    let file = is_page(rt, alloc, read(&mut shelf, alloc, name.as_str())).ok();
+    let other = is_page(rt, alloc, read(&mut shelf, alloc, "b.jp2")).ok();
     (fault, file, other)
 }
 

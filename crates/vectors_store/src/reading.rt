@@ -1,10 +1,9 @@
 //! Files and windows read back.
 
 use crate::asserts::{equal, equal_at};
-use crate::calls::{is_page, view, whole, window};
+use crate::calls::{archive_of, is_page, open, shelf_of, view, whole, window};
 use crate::contents::Content;
 use crate::shelves::{Act, act_at};
-use crate::sure::{archive_of, open, shelf_of};
 use jk_math::Fault;
 use jk_store::{Archive, Entry, MemoryShelf, Shelf};
 use std::alloc::Global;
@@ -19,6 +18,7 @@ enum Asked {
 
 /// Whether what an archive gives by a name is the file of one sample.
 fn is_given<S: Shelf>(
+    rt: &impl Abort,
     archive: &mut Archive<S>,
     alloc: Global,
     name: &str,
@@ -28,13 +28,13 @@ fn is_given<S: Shelf>(
         Asked::Whole => whole(archive, alloc, name),
         Asked::Window(x, width) => window(archive, alloc, name, view(x, width)),
     };
-    is_page(alloc, answer)
+    is_page(rt, alloc, answer)
 }
 
 /// Whether what an archive of one image `a` gives by a name is that image's file.
 fn by_a_name(rt: &impl Abort, alloc: Global, name: &str, asked: Asked) -> Result<bool, Fault> {
     let mut archive = archive_of(rt, alloc, &[("a.jp2", Content::Page)]);
-    is_given(&mut archive, alloc, name, asked)
+    is_given(rt, &mut archive, alloc, name, asked)
 }
 
 static BY_NAME: [(&str, Asked, Result<bool, Fault>); 6] = [
@@ -76,7 +76,7 @@ fn by_the_entry(
     let archive = archive_of(rt, alloc, &[("a.jp2", Content::Page)]);
     let mut shelf = shelf_of(rt, alloc, &[file]);
     let entry = archive.list().first().expect(rt, "an image");
-    let answer = is_page(alloc, ask(entry, alloc, &mut shelf, asked));
+    let answer = is_page(rt, alloc, ask(entry, alloc, &mut shelf, asked));
     (answer, shelf.failures())
 }
 
@@ -128,8 +128,8 @@ fn changing(rt: &impl Abort, alloc: Global, asked: Asked) -> [Result<bool, Fault
     // The calls are: list, read, and then this one.
     let shelf = shelf_of(rt, alloc, &[("a.jp2", Content::Page)]);
     let mut archive = open(rt, alloc, act_at(shelf, 3, Act::Change));
-    let first = is_given(&mut archive, alloc, "a", asked);
-    let second = is_given(&mut archive, alloc, "a", Asked::Whole);
+    let first = is_given(rt, &mut archive, alloc, "a", asked);
+    let second = is_given(rt, &mut archive, alloc, "a", Asked::Whole);
     [first, second]
 }
 

@@ -15,14 +15,14 @@ use std::test::Fail;
 /// the end.
 type Said = (Option<Fault>, (usize, usize), Option<Fault>, usize);
 
-fn added_twice(alloc: Global) -> Result<Said, Fault> {
-    let mut archive = archive_of(alloc, &[("a.jp2", Content::Page)])?;
-    let said = refusal(&mut archive, alloc, "b", 129);
+fn added_twice(rt: &impl Abort, alloc: Global) -> Said {
+    let mut archive = archive_of(rt, alloc, &[("a.jp2", Content::Page)]);
+    let said = refusal(rt, &mut archive, alloc, "b", 129);
     let behind = archive.list().len();
-    let mut anew = open(alloc, archive.into_shelf())?;
+    let mut anew = open(rt, alloc, archive.into_shelf());
     let found = anew.list().len();
-    let again = refusal(&mut anew, alloc, "b", 129);
-    Ok((said, (behind, found), again, anew.list().len()))
+    let again = refusal(rt, &mut anew, alloc, "b", 129);
+    (said, (behind, found), again, anew.list().len())
 }
 
 /// Where the addition was refused memory, the list is as before, and so is the shelf's; then the
@@ -44,5 +44,5 @@ fn judged(rt: &impl Abort, said: Said) -> Result<(), Fail> {
 
 #[test]
 fn a_refused_addition_changes_nothing(rt: HostRuntime) -> Result<(), Fail> {
-    judged(&rt, added_twice(rt.alloc())?)
+    judged(&rt, added_twice(&rt, rt.alloc()))
 }

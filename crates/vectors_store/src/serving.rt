@@ -1,11 +1,10 @@
 //! An archive in memory, asked over HTTP.
 
 use crate::asserts::{equal, equal_at};
-use crate::calls::add_layered;
+use crate::calls::{add_layered, archive_of, bytes, open, put, shelf_of};
 use crate::contents::Content;
 use crate::shelves::{Act, Acting, act_at};
-use crate::sure::{archive_of, bytes, open, put, shelf_of};
-use jk_store::{Archive, MemoryShelf};
+use jk_store::{Archive, MemoryShelf, Shelf};
 use jk_web::{Cache, End, run, run_with};
 use std::alloc::Global;
 use std::io;
@@ -59,23 +58,44 @@ fn changed_at(rt: &impl Abort, alloc: Global, read: u64) -> Archive<Acting> {
     )
 }
 
-/// What is replied by an archive of one image to a stream that comes in pieces of this size, and
-/// how it ends.
-fn replied(rt: &impl Abort, alloc: Global, stream: &[u8], size: usize) -> (Vec<u8>, End) {
+/// What an archive replies to a stream that comes in pieces of this size, and how it ends.
+fn served<S: Shelf>(
+    rt: &impl Abort,
+    alloc: Global,
+    archive: &mut Archive<S>,
+    stream: &[u8],
+    size: usize,
+) -> (Vec<u8>, End) {
     let mut out = Vec::new(alloc);
     let mut reader = requests(rt, alloc, stream, size);
-    let mut archive = one_image(rt, alloc);
-    let end = run(alloc, &mut reader, &mut out, &mut archive, 1000).expect(rt, "a connection");
+    let end = run(alloc, &mut reader, &mut out, archive, 1000).expect(rt, "a connection");
     (out, end)
+}
+
+/// The same through a cache with room for so many windows.
+fn served_with<S: Shelf>(
+    rt: &impl Abort,
+    alloc: Global,
+    archive: &mut Archive<S>,
+    stream: &[u8],
+    room: usize,
+) -> (Vec<u8>, End) {
+    let mut out = Vec::new(alloc);
+    let mut reader = requests(rt, alloc, stream, 1000);
+    let mut cache = Cache::new(alloc, room.max(1)).expect(rt, "a cache");
+    let end = run_with(alloc, &mut reader, &mut out, archive, &mut cache, 1000);
+    (out, end.expect(rt, "a connection"))
+}
+
+/// What an archive of one image replies to a stream that comes in pieces of this size, and how it
+/// ends.
+fn replied(rt: &impl Abort, alloc: Global, stream: &[u8], size: usize) -> (Vec<u8>, End) {
+    served(rt, alloc, &mut one_image(rt, alloc), stream, size)
 }
 
 /// The same where the image's file is another one at its nth read.
 fn replied_to_changed(rt: &impl Abort, alloc: Global, stream: &[u8], read: u64) -> (Vec<u8>, End) {
-    let mut out = Vec::new(alloc);
-    let mut reader = requests(rt, alloc, stream, 1000);
-    let mut archive = changed_at(rt, alloc, read);
-    let end = run(alloc, &mut reader, &mut out, &mut archive, 1000).expect(rt, "a connection");
-    (out, end)
+    served(rt, alloc, &mut changed_at(rt, alloc, read), stream, 1000)
 }
 
 /// What is asked, and the reply.
@@ -206,15 +226,7 @@ fn a_file_that_has_changed(rt: HostRuntime) {
 
 /// The same where windows are kept, one at a time.
 fn replied_with_cache(rt: &impl Abort, alloc: Global, stream: &[u8], read: u64) -> (Vec<u8>, End) {
-    let mut out = Vec::new(alloc);
-    let mut reader = requests(rt, alloc, stream, 1000);
-    let mut archive = changed_at(rt, alloc, read);
-    let mut cache = Cache::new(alloc, 1).expect(rt, "a cache");
-    let end = run_with(alloc, &mut reader, &mut out, &mut archive, &mut cache, 1000).expect(
-        rt,
-        "a connection",
-    );
-    (out, end)
+    served_with(rt, alloc, &mut changed_at(rt, alloc, read), stream, 1)
 }
 
 /// A window, which is asked for twice. The second query has the reduction that the first leaves
@@ -255,6 +267,10 @@ static FOUR_LAYERS: &str = "0000001A 00 01 FF93 00 A42000 F000 F000 00 00 00 00 
 static IN_LAYERS: &[u8] =
     b"GET /images/q/window?x=0&y=0&w=1&h=1&layers=4 HTTP/1.1\r\n\r\nGET /images/q/window?x=0&y=0&w=1&h=1 HTTP/1.1\r\n\r\nGET /images/q/window?x=0&y=0&w=1&h=1&layers=0 HTTP/1.1\r\n\r\nGET /images/q/window?x=0&y=0&w=1&h=1&layers=4 HTTP/1.1\r\n\r\n";
 
+/// The reply where a view has no window.
+static NO_WINDOW: &[u8] =
+    b"HTTP/1.1 400 Bad Request\r\nContent-Type: text/plain\r\nContent-Length: 16\r\n\r\n400 Bad Request\n";
+
 /// The reply that is a file of 178 or 182 bytes.
 fn layered_reply(rt: &impl Abort, alloc: Global, out: &mut Vec<u8>, all: bool) {
     let (head, parts): (&[u8], [&str; 4]) = if all {
@@ -272,38 +288,27 @@ fn layered_reply(rt: &impl Abort, alloc: Global, out: &mut Vec<u8>, all: bool) {
     put(rt, out, &bytes_of(alloc, &parts).expect(rt, "bytes"));
 }
 
+/// The replies to them.
+fn replies_in_layers(rt: &impl Abort, alloc: Global) -> Vec<u8> {
+    let mut want = Vec::new(alloc);
+    layered_reply(rt, alloc, &mut want, false);
+    layered_reply(rt, alloc, &mut want, true);
+    put(rt, &mut want, NO_WINDOW);
+    layered_reply(rt, alloc, &mut want, false);
+    want
+}
+
 /// With no cache, and with one that keeps one window or two.
 #[test]
 fn windows_in_layers(rt: HostRuntime) {
     let alloc = rt.alloc();
-    let mut want = Vec::new(alloc);
-    layered_reply(&rt, alloc, &mut want, false);
-    layered_reply(&rt, alloc, &mut want, true);
-    put(
-        &rt,
-        &mut want,
-        b"HTTP/1.1 400 Bad Request\r\nContent-Type: text/plain\r\nContent-Length: 16\r\n\r\n400 Bad Request\n",
-    );
-    layered_reply(&rt, alloc, &mut want, false);
+    let want = replies_in_layers(&rt, alloc);
     let mut archive = open(&rt, alloc, MemoryShelf::new(alloc));
-    add_layered(&mut archive, alloc, "q").expect(&rt, "an image");
-    let mut out = Vec::new(alloc);
-    let mut reader = requests(&rt, alloc, IN_LAYERS, 1000);
-    run(alloc, &mut reader, &mut out, &mut archive, 1000).expect(&rt, "a connection");
-    equal(&rt, out.as_slice(), want.as_slice());
-    for capacity in [1, 2] {
-        let mut kept = Vec::new(alloc);
-        let mut reader = requests(&rt, alloc, IN_LAYERS, 1000);
-        let mut cache = Cache::new(alloc, capacity).expect(&rt, "a cache");
-        run_with(
-            alloc,
-            &mut reader,
-            &mut kept,
-            &mut archive,
-            &mut cache,
-            1000,
-        )
-        .expect(&rt, "a connection");
-        equal_at(&rt, capacity, kept.as_slice(), want.as_slice());
+    add_layered(&rt, &mut archive, alloc, "q");
+    let (bytes, _end) = served(&rt, alloc, &mut archive, IN_LAYERS, 1000);
+    equal(&rt, bytes.as_slice(), want.as_slice());
+    for room in [1, 2] {
+        let (bytes, _end) = served_with(&rt, alloc, &mut archive, IN_LAYERS, room);
+        equal_at(&rt, room, bytes.as_slice(), want.as_slice());
     }
 }

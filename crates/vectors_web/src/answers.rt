@@ -1,12 +1,12 @@
 ghost use Rattle.std.specs.Prelude.{◌≡◌};
 
+use crate::asserts::equal_at;
 use crate::calls::{feed, next};
 use crate::cases::ANSWERS;
 use jk_math::Fault;
 use jk_web::{Asked, Catalogue, Next, Reply, Request, Session, answer};
 use std::alloc::Global;
 use std::process::Abort;
-use vectors::equal_at;
 
 /// The image `a`; broken where its file can't be read.
 #[derive(Drop)]
@@ -79,9 +79,9 @@ fn replies(rt: &impl Abort, alloc: Global, stream: &[u8], broken: bool, want: &[
     feed(rt, &mut session, stream);
     if let Next::Request(request) = next(rt, &mut session) {
         let reply = reply_to(rt, alloc, &request, broken);
-        equal_at(stream, reply.bytes.as_slice(), want).expect(rt, "a reply");
+        equal_at(rt, "a reply", stream, reply.bytes.as_slice(), want);
     } else {
-        equal_at(stream, b"".as_slice(), want).expect(rt, "no reply");
+        equal_at(rt, "no reply", stream, b"".as_slice(), want);
     }
 }
 

@@ -1,3 +1,4 @@
+use crate::asserts::{equal, equal_at};
 use crate::calls::{feed, next};
 use crate::cases::CACHED;
 use crate::serving::{read_from, write_to};
@@ -5,10 +6,35 @@ use jk_math::Fault;
 use jk_web::{Asked, Cache, Catalogue, End, Next, Request, Session, answer, answer_with, run_with};
 use std::alloc::Global;
 use std::process::Abort;
-use vectors::{equal, equal_at};
 
 /// From here on the height of a window is the number of its bytes.
 const LONG: u32 = 1000000;
+
+/// Adds a space and a number.
+fn put_number(alloc: Global, out: &mut Vec<u8>, number: u32) -> Result<(), Fault> {
+    out.push(b' ')?;
+    out.extend_from_slice(number.to_string(alloc)?.as_bytes())?;
+    Ok(())
+}
+
+/// Adds the numbers of a window.
+fn put_window(alloc: Global, out: &mut Vec<u8>, asked: Asked) -> Result<(), Fault> {
+    for number in [asked.reduce, asked.x, asked.y, asked.width, asked.height] {
+        put_number(alloc, out, number)?;
+    }
+    match asked.layers {
+        Some(layers) => put_number(alloc, out, layers),
+        None => Ok(()),
+    }
+}
+
+/// Adds full stops up to so many bytes.
+fn lengthen(out: &mut Vec<u8>, length: u32) -> Result<(), Fault> {
+    for _ in out.len()..length as usize {
+        out.push(b'.')?;
+    }
+    Ok(())
+}
 
 /// The images `a` and `b`, whose windows say what was asked for. It counts the windows that it
 /// makes; nothing is claimed of it.
@@ -50,18 +76,9 @@ impl Catalogue for Counting {
             return Err(Fault::BadWindow);
         }
         let mut cut = Vec::from_slice(alloc, name)?;
-        for number in [asked.reduce, asked.x, asked.y, asked.width, asked.height] {
-            cut.push(b' ')?;
-            cut.extend_from_slice(number.to_string(alloc)?.as_bytes())?;
-        }
-        if let Some(layers) = asked.layers {
-            cut.push(b' ')?;
-            cut.extend_from_slice(layers.to_string(alloc)?.as_bytes())?;
-        }
+        put_window(alloc, &mut cut, asked)?;
         if asked.height >= LONG {
-            for _ in cut.len()..asked.height as usize {
-                cut.push(b'.')?;
-            }
+            lengthen(&mut cut, asked.height)?;
         }
         Ok(cut)
     }
@@ -80,13 +97,14 @@ fn answers_one(
     let mut plain = Counting { made: 0 };
     let reply = answer_with(alloc, request, counting, cache).expect(rt, "a reply");
     let want = answer(alloc, request, &mut plain).expect(rt, "a reply");
-    equal(reply.bytes.as_slice(), want.bytes.as_slice()).expect(rt, "a reply");
+    equal(rt, "a reply", reply.bytes.as_slice(), want.bytes.as_slice());
 }
 
 /// A cache with room for so many windows.
-fn cache_of(rt: &impl Abort, alloc: Global, capacity: usize) -> Cache {
-    assert!(rt; capacity >= 1);
-    Cache::new(alloc, capacity).expect(rt, "a cache")
+pub(crate) fn cache_of(rt: &impl Abort, alloc: Global, capacity: usize) -> Cache {
+    let room = capacity.max(1);
+    equal(rt, "room for a window at least", room, capacity);
+    Cache::new(alloc, room).expect(rt, "a cache")
 }
 
 /// Answers the requests of a stream through a cache with room for so many windows: each reply is
@@ -101,7 +119,7 @@ fn answers_alike(rt: &impl Abort, alloc: Global, capacity: usize, stream: &[u8],
             answers_one(rt, alloc, &request, &mut counting, &mut cache);
         }
     }
-    equal_at(stream, counting.made, made).expect(rt, "windows");
+    equal_at(rt, "windows", stream, counting.made, made);
 }
 
 #[test]
@@ -123,8 +141,8 @@ fn is_served(rt: &impl Abort, alloc: Global, counting: &mut Counting, cache: &mu
     let mut reader = read_from(rt, alloc, ASKED, 7, false);
     let mut writer = write_to(alloc, 5, 100000, false);
     let end = run_with(alloc, &mut reader, &mut writer, counting, cache, 100000);
-    equal(end, Ok(End::Closed)).expect(rt, "an end");
-    equal(writer.bytes.as_slice(), REPLIED).expect(rt, "replies");
+    equal(rt, "an end", end, Ok(End::Closed));
+    equal(rt, "replies", writer.bytes.as_slice(), REPLIED);
 }
 
 #[test]
@@ -133,5 +151,5 @@ fn kept_on_a_connection(rt: HostRuntime) {
     let mut counting = Counting { made: 0 };
     is_served(&rt, rt.alloc(), &mut counting, &mut cache);
     is_served(&rt, rt.alloc(), &mut counting, &mut cache);
-    equal(counting.made, 1).expect(&rt, "windows");
+    equal(&rt, "windows", counting.made, 1);
 }

@@ -112,26 +112,27 @@ pub static QUERIES: [(&[u8], Option<(u32, u32, u32, u32, u32)>); 26] = [
     (b"", None),
 ];
 
-/// Ends of queries for a window, and how many layers they ask for: a number, `all`, or `none` where
-/// they ask for no window.
-pub static LAYERS: &str = "\
-|all
-&layers=1|1
-&layers=0|0
-&layers=4294967295|4294967295
-&layers=0000000007|7
-&%6Cayers=%37|7
-&layers=4294967296|none
-&layers=00000000001|none
-&layers=|none
-&layers|none
-&layers=all|none
-&layers=-1|none
-&layers=1&layers=1|none
-&Layers=1|none
-&layer=1|none
-&layersr=1|none
-&l=1|none";
+/// Ends of queries for a window of one sample, and how many layers they ask for: a number, or all of
+/// them, which is no number; or for no window.
+pub static LAYERS: [(&[u8], Option<Option<u32>>); 17] = [
+    (b"", Some(None)),
+    (b"&layers=1", Some(Some(1))),
+    (b"&layers=0", Some(Some(0))),
+    (b"&layers=4294967295", Some(Some(4294967295))),
+    (b"&layers=0000000007", Some(Some(7))),
+    (b"&%6Cayers=%37", Some(Some(7))),
+    (b"&layers=4294967296", None),
+    (b"&layers=00000000001", None),
+    (b"&layers=", None),
+    (b"&layers", None),
+    (b"&layers=all", None),
+    (b"&layers=-1", None),
+    (b"&layers=1&layers=1", None),
+    (b"&Layers=1", None),
+    (b"&layer=1", None),
+    (b"&layersr=1", None),
+    (b"&l=1", None),
+];
 
 /// Paths, and what they name: `list`, a name behind `whole` or `window`, or `none`.
 pub static PATHS: [(&[u8], &[u8]); 16] = [

@@ -1,10 +1,11 @@
 //! A connection of very many requests.
 
+use crate::asserts::{equal, equal_at};
 use crate::serving::Echo;
 use jk_web::{End, serve_connection};
 use std::io;
 use std::io::{Read, Write};
-use vectors::{equal, equal_at, kilobytes};
+use vectors::kilobytes;
 
 /// A request of 100 bytes.
 static REQUEST: &[u8] =
@@ -69,10 +70,10 @@ fn little_is_kept(rt: HostRuntime) {
         1_000_000,
     );
     let after = kilobytes(&rt, rt.alloc(), "VmPeak:").expect(&rt, "after");
-    equal(end, Ok(End::Closed)).expect(&rt, "an end");
-    equal((REQUEST.len(), writer.bytes), (100, 350_000)).expect(&rt, "bytes");
+    equal(&rt, "an end", end, Ok(End::Closed));
+    equal(&rt, "bytes", (REQUEST.len(), writer.bytes), (100, 350_000));
     let little = after < before.saturating_add(1024);
-    equal_at((before, after), little, true).expect(&rt, "kilobytes");
+    equal_at(&rt, "kilobytes", (before, after), little, true);
     let few = reader.reads <= 5_000_000 / 1000;
-    equal_at(reader.reads, few, true).expect(&rt, "reads");
+    equal_at(&rt, "reads", reader.reads, few, true);
 }

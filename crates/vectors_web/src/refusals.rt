@@ -1,6 +1,7 @@
 //! A session that was refused memory. With all its memory this test sees one that isn't; a script
 //! beside the proofs refuses each growth in turn, and wants that its other end is met.
 
+use crate::asserts::{equal, equal_at};
 use jk_math::Fault;
 use jk_web::{Next, Session};
 use std::process::Abort;
@@ -9,13 +10,17 @@ use std::test::Fail;
 /// A request in two pieces.
 static PIECES: [&[u8]; 2] = [b"GET /images HT", b"TP/1.1\r\nHost: x\r\n\r\nGET /"];
 
+/// A call was refused memory.
+fn is_refused(rt: &impl Abort, fault: Option<Fault>) {
+    let is_memory = matches!(fault, Some(Fault::Memory(_)));
+    equal_at(rt, "refused", fault, is_memory, true);
+}
+
 /// A session that was refused memory gives no request from then on, and takes no bytes.
 fn stays(rt: &impl Abort, session: &mut Session) -> Result<(), Fail> {
     for piece in &PIECES {
-        let fed = session.feed(piece).err();
-        assert!(rt; matches!(fed, Some(Fault::Memory(_))), "{fed:?}");
-        let next = session.next().err();
-        assert!(rt; matches!(next, Some(Fault::Memory(_))), "{next:?}");
+        is_refused(rt, session.feed(piece).err());
+        is_refused(rt, session.next().err());
     }
     Err("it stayed refused".into())
 }
@@ -34,6 +39,6 @@ fn a_refused_session_stays_so(rt: HostRuntime) -> Result<(), Fail> {
             Err(_) => return stays(&rt, &mut session),
         }
     }
-    assert_eq!(rt; count, 1);
+    equal(&rt, "requests", count, 1);
     Ok(())
 }

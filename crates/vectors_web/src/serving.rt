@@ -1,3 +1,4 @@
+use crate::asserts::equal;
 use crate::cases::SERVED;
 use jk_math::Fault;
 use jk_web::{End, Octets, Reply, Request, Service, serve_connection};
@@ -5,7 +6,16 @@ use std::alloc::Global;
 use std::io;
 use std::io::{ErrorKind, Write};
 use std::process::Abort;
-use vectors::{Pieces, equal};
+use vectors::Pieces;
+
+/// Texts, one behind the other.
+fn joined(alloc: Global, texts: &[&[u8]]) -> Result<Vec<u8>, Fault> {
+    let mut all = Vec::new(alloc);
+    for text in texts {
+        all.extend_from_slice(text)?;
+    }
+    Ok(all)
+}
 
 /// Answers with the method and the target.
 #[derive(Drop)]
@@ -17,11 +27,8 @@ impl Service for Echo {
     ghost refuses = { λ _ _ _ _. Unit {0} };
 
     fn answer(&mut self, alloc: Global, request: &Request) -> Result<Reply, Fault> {
-        let mut bytes = Vec::new(alloc);
-        bytes.extend_from_slice(request.method.as_slice())?;
-        bytes.push(b' ')?;
-        bytes.extend_from_slice(request.target.as_slice())?;
-        bytes.push(b'\n')?;
+        let (method, target) = (request.method.as_slice(), request.target.as_slice());
+        let bytes = joined(alloc, &[method, b" ", target, b"\n"])?;
         Ok(Reply {
             status: 200,
             close: request.closes,
@@ -88,8 +95,8 @@ fn serves(
 ) {
     let mut echo = Echo {};
     let end = serve_connection(alloc, &mut reader, &mut writer, &mut echo, turns);
-    equal(writer.bytes.as_slice(), want.0).expect(rt, "replies");
-    equal(end, Ok(want.1)).expect(rt, "an end");
+    equal(rt, "replies", writer.bytes.as_slice(), want.0);
+    equal(rt, "an end", end, Ok(want.1));
 }
 
 /// A stream that comes in pieces of this size is served to a writer that takes so many bytes a write.

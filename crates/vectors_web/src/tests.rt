@@ -1,9 +1,9 @@
-use crate::calls::{feed, next};
+use crate::asserts::{equal, equal_at};
+use crate::calls::{feed, named, next};
 use crate::cases::{BAD, LAYERS, PATHS, QUERIES, STREAMS};
-use jk_web::{Asked, NamedResource, Next, Request, Session, bad, resource_of, window_asked};
+use jk_web::{Asked, NamedResource, Next, Request, Session, bad, window_asked};
 use std::alloc::Global;
 use std::process::Abort;
-use vectors::{Line, Told, equal, equal_at};
 
 /// Adds bytes.
 fn add(rt: &impl Abort, out: &mut Vec<u8>, bytes: &[u8]) {
@@ -15,10 +15,8 @@ fn tell(rt: &impl Abort, out: &mut Vec<u8>, request: &Request) {
     add(rt, out, request.method.as_slice());
     add(rt, out, b" ");
     add(rt, out, request.target.as_slice());
-    if request.closes {
-        add(rt, out, b" close");
-    }
-    add(rt, out, b"\n");
+    let end: &[u8] = if request.closes { b" close\n" } else { b"\n" };
+    add(rt, out, end);
 }
 
 /// Adds a line on a bad request.
@@ -43,14 +41,15 @@ fn drain(rt: &impl Abort, alloc: Global, session: &mut Session, out: &mut Vec<u8
     false
 }
 
-/// What is asked in a stream that comes in pieces of this size.
+/// What is asked in a stream that comes in pieces of this size, up to where no more may come.
 fn told(rt: &impl Abort, alloc: Global, stream: &[u8], size: usize) -> Vec<u8> {
     let mut session = Session::new(alloc);
     let mut out = Vec::new(alloc);
+    let mut is_open = true;
     for piece in stream.chunks(size.max(1)) {
-        feed(rt, &mut session, piece);
-        if !drain(rt, alloc, &mut session, &mut out) {
-            return out;
+        if is_open {
+            feed(rt, &mut session, piece);
+            is_open = drain(rt, alloc, &mut session, &mut out);
         }
     }
     out
@@ -59,7 +58,7 @@ fn told(rt: &impl Abort, alloc: Global, stream: &[u8], size: usize) -> Vec<u8> {
 /// This is asked in a stream that comes in pieces of this size.
 fn tells(rt: &impl Abort, alloc: Global, stream: &[u8], size: usize, want: &[u8]) {
     let found = told(rt, alloc, stream, size);
-    equal_at(size, found.as_slice(), want).expect(rt, "in pieces of");
+    equal_at(rt, "in pieces of", size, found.as_slice(), want);
 }
 
 #[test]
@@ -71,55 +70,65 @@ fn streams_in_pieces(rt: HostRuntime) {
     }
 }
 
-/// A head with a target of `a`s.
-fn long_head(rt: &impl Abort, alloc: Global, letters: usize) -> Vec<u8> {
+/// A head whose middle is repeated so often.
+fn head_of(
+    rt: &impl Abort,
+    alloc: Global,
+    (front, middle, end): (&[u8], &[u8], &[u8]),
+    count: usize,
+) -> Vec<u8> {
     let mut head = Vec::new(alloc);
-    add(rt, &mut head, b"GET /");
-    for _ in 0..letters {
-        head.push(b'a').expect(rt, "a letter");
+    add(rt, &mut head, front);
+    for _ in 0..count {
+        add(rt, &mut head, middle);
     }
-    add(rt, &mut head, b" HTTP/1.1\r\n\r\n");
+    add(rt, &mut head, end);
     head
 }
 
-/// A head with so many fields.
-fn wide_head(rt: &impl Abort, alloc: Global, fields: usize) -> Vec<u8> {
-    let mut head = Vec::new(alloc);
-    add(rt, &mut head, b"GET / HTTP/1.1\r\n");
-    for _ in 0..fields {
-        add(rt, &mut head, b"a: b\r\n");
-    }
-    add(rt, &mut head, b"\r\n");
-    head
-}
+/// A head with a target of `a`s.
+static LONG: (&[u8], &[u8], &[u8]) = (b"GET /", b"a", b" HTTP/1.1\r\n\r\n");
+
+/// A head with fields.
+static WIDE: (&[u8], &[u8], &[u8]) = (b"GET / HTTP/1.1\r\n", b"a: b\r\n", b"\r\n");
 
 /// A stream is a request, or else a bad one with status 431.
 fn is_request(rt: &impl Abort, alloc: Global, stream: &[u8], size: usize, due: bool) {
     let told = told(rt, alloc, stream, size);
     let told = told.as_slice();
     let case = (stream.len(), size);
-    equal_at(case, told.starts_with(b"GET /"), due).expect(rt, "a request");
-    equal_at(case, told == b"431\n".as_slice(), !due).expect(rt, "a bad request");
+    equal_at(rt, "a request", case, told.starts_with(b"GET /"), due);
+    equal_at(rt, "a bad request", case, told == b"431\n".as_slice(), !due);
+}
+
+/// A head of so many bytes is a request where it has 8,192 at most.
+fn has_length(rt: &impl Abort, alloc: Global, length: usize) {
+    let head = head_of(rt, alloc, LONG, length.saturating_sub(18));
+    equal(rt, "bytes", head.len(), length);
+    for size in [4096, 8191, 8192, 8193] {
+        is_request(rt, alloc, &head, size, length <= 8192);
+    }
 }
 
 #[test]
 fn the_longest_head(rt: HostRuntime) {
     for length in [8191, 8192, 8193] {
-        let head = long_head(&rt, rt.alloc(), length - 18);
-        equal(head.len(), length).expect(&rt, "bytes");
-        for size in [4096, 8191, 8192, 8193] {
-            is_request(&rt, rt.alloc(), &head, size, length <= 8192);
-        }
+        has_length(&rt, rt.alloc(), length);
+    }
+}
+
+/// A head with so many fields is a request where it has 64 at most.
+fn has_fields(rt: &impl Abort, alloc: Global, fields: usize) {
+    let head = head_of(rt, alloc, WIDE, fields);
+    for size in [100, 1000] {
+        is_request(rt, alloc, &head, size, fields <= 64);
     }
 }
 
 #[test]
 fn the_most_fields(rt: HostRuntime) {
     for fields in [63, 64, 65, 66] {
-        let head = wide_head(&rt, rt.alloc(), fields);
-        for size in [100, 1000] {
-            is_request(&rt, rt.alloc(), &head, size, fields <= 64);
-        }
+        has_fields(&rt, rt.alloc(), fields);
     }
 }
 
@@ -129,7 +138,7 @@ fn is_bad(rt: &impl Abort, session: &mut Session) {
         Next::Bad(status) => Some(status),
         _ => None,
     };
-    equal(found, Some(400)).expect(rt, "a bad request");
+    equal(rt, "a bad request", found, Some(400));
 }
 
 #[test]
@@ -145,8 +154,14 @@ fn a_bad_request_stays(rt: HostRuntime) {
 /// The reply to a bad request.
 fn replies(rt: &impl Abort, alloc: Global, status: u16, want: &[u8]) {
     let reply = bad(alloc, status).expect(rt, "a reply");
-    equal_at(status, reply.bytes.as_slice(), want).expect(rt, "a reply");
-    equal_at(status, (reply.status, reply.close), (status, true)).expect(rt, "a reply");
+    equal_at(rt, "a reply", status, reply.bytes.as_slice(), want);
+    equal_at(
+        rt,
+        "a reply",
+        status,
+        (reply.status, reply.close),
+        (status, true),
+    );
 }
 
 #[test]
@@ -159,42 +174,34 @@ fn replies_to_bad_requests(rt: HostRuntime) {
 /// A query asks for this.
 type Window = Option<(u32, u32, u32, u32, u32)>;
 
-fn asks(rt: &impl Abort, alloc: Global, query: &[u8], want: Window) {
-    let asked = window_asked(alloc, query).expect(rt, "a query");
-    let got = asked.map(|a: Asked| (a.reduce, a.x, a.y, a.width, a.height));
-    equal_at(query, got, want).expect(rt, "a query");
-}
-
-/// Tells how many layers are asked for.
-fn tell_layers(told: &mut Told, asked: Option<Asked>) {
+/// The window that is asked for, or none.
+fn window_of(asked: Option<Asked>) -> Window {
     match asked {
-        None => told.word("none"),
-        Some(asked) => match asked.layers {
-            None => told.word("all"),
-            Some(count) => told.shown(&count),
-        },
+        Some(asked) => Some((asked.reduce, asked.x, asked.y, asked.width, asked.height)),
+        None => None,
     }
 }
 
-/// The window of one sample in so many layers, by the end of a query.
-fn query_of(rt: &impl Abort, alloc: Global, end: &str) -> String {
-    let mut query = Told::new(alloc);
-    query.word("x=0&y=0&w=1&h=1");
-    query.word(end);
-    query.end().expect(rt, "a query")
+fn asks(rt: &impl Abort, alloc: Global, query: &[u8], want: Window) {
+    let asked = window_asked(alloc, query).expect(rt, "a query");
+    equal_at(rt, "a query", query, window_of(asked), want);
 }
 
-/// How many layers a query with the end of a line asks for.
-fn asks_layers(rt: &impl Abort, alloc: Global, text: &str) {
-    let mut line = Line::new(text, '|');
-    let (end, want) = (line.word(), line.word());
-    line.end().expect(rt, "a line");
-    let query = query_of(rt, alloc, end);
-    let asked = window_asked(alloc, query.as_bytes()).expect(rt, "a query");
-    let mut told = Told::new(alloc);
-    tell_layers(&mut told, asked);
-    let told = told.end().expect(rt, "a text");
-    equal_at(end, told.as_str(), want).expect(rt, "layers");
+/// How many layers are asked for, where a window is.
+fn layers_of(asked: Option<Asked>) -> Option<Option<u32>> {
+    match asked {
+        Some(asked) => Some(asked.layers),
+        None => None,
+    }
+}
+
+/// The query of one sample with this end asks for so many layers.
+fn asks_layers(rt: &impl Abort, alloc: Global, end: &[u8], want: Option<Option<u32>>) {
+    let mut query = Vec::new(alloc);
+    add(rt, &mut query, b"x=0&y=0&w=1&h=1");
+    add(rt, &mut query, end);
+    let asked = window_asked(alloc, &query).expect(rt, "a query");
+    equal_at(rt, "layers", end, layers_of(asked), want);
 }
 
 #[test]
@@ -202,14 +209,14 @@ fn queries(rt: HostRuntime) {
     for (query, want) in &QUERIES {
         asks(&rt, rt.alloc(), *query, *want);
     }
-    for row in LAYERS.split('\n') {
-        asks_layers(&rt, rt.alloc(), row);
+    for (end, want) in &LAYERS {
+        asks_layers(&rt, rt.alloc(), *end, *want);
     }
 }
 
 /// A path's place in words, the second of which is the name.
 fn place_told(path: &[u8]) -> (&'static [u8], &[u8]) {
-    match resource_of(path) {
+    match named(path) {
         NamedResource::Listing => (b"list", b""),
         NamedResource::Whole(name) => (b"whole ", name),
         NamedResource::Window(name) => (b"window ", name),
@@ -221,7 +228,7 @@ fn place_told(path: &[u8]) -> (&'static [u8], &[u8]) {
 fn stands(rt: &impl Abort, path: &[u8], want: &[u8]) {
     let (word, name) = place_told(path);
     let rest = want.strip_prefix(word);
-    equal_at((path, word), Some(name), rest).expect(rt, "a place");
+    equal_at(rt, "a place", (path, word), Some(name), rest);
 }
 
 #[test]

@@ -1,11 +1,12 @@
 //! How often a connection is read, and why it ends.
 
-use crate::caching::Counting;
-use jk_math::Fault;
-use jk_web::{Cache, End, run, run_with};
+use crate::asserts::equal_at;
+use crate::caching::{Counting, cache_of};
+use crate::serving::read_from;
+use jk_web::{End, run, run_with};
 use std::alloc::Global;
 use std::process::Abort;
-use vectors::{Pieces, equal_at};
+use vectors::Pieces;
 
 /// Two requests of 24 bytes each, one that closes before another, and one before a bad one.
 const TWO: &[u8] = b"GET /images HTTP/1.1\r\n\r\nGET /images HTTP/1.1\r\n\r\n";
@@ -44,31 +45,29 @@ fn count_of(text: &[u8]) -> usize {
     count
 }
 
-/// How many reads are made of a stream, at most so many, how many replies are written, and why it
-/// ends, without a cache or with one.
-fn ended(
+/// Why a connection ends, of which so many reads are made at most, without a cache.
+fn end_without(
+    rt: &impl Abort,
     alloc: Global,
-    stream: (&[u8], bool),
+    input: &mut Pieces,
+    output: &mut Vec<u8>,
     turns: u64,
-    cached: bool,
-) -> Result<(u64, usize, End), Fault> {
-    let mut input = Pieces::new(Vec::from_slice(alloc, stream.0)?, 12, stream.1);
-    let mut output = Vec::new(alloc);
+) -> End {
     let mut images = Counting { made: 0 };
-    let end = if cached {
-        let mut cache = Cache::new(alloc, 2)?;
-        run_with(
-            alloc,
-            &mut input,
-            &mut output,
-            &mut images,
-            &mut cache,
-            turns,
-        )?
-    } else {
-        run(alloc, &mut input, &mut output, &mut images, turns)?
-    };
-    Ok((input.reads(), count_of(&output), end))
+    run(alloc, input, output, &mut images, turns).expect(rt, "a connection")
+}
+
+/// The same with a cache.
+fn end_with(
+    rt: &impl Abort,
+    alloc: Global,
+    input: &mut Pieces,
+    output: &mut Vec<u8>,
+    turns: u64,
+) -> End {
+    let mut images = Counting { made: 0 };
+    let mut cache = cache_of(rt, alloc, 2);
+    run_with(alloc, input, output, &mut images, &mut cache, turns).expect(rt, "a connection")
 }
 
 /// The reads, the replies and the end of a stream, of which so many are made at most.
@@ -80,8 +79,15 @@ fn ends_so(
     cached: bool,
     due: (u64, usize, End),
 ) {
-    let found = ended(alloc, stream, turns, cached);
-    equal_at((turns, cached), found, Ok(due)).expect(rt, "reads, replies and an end");
+    let mut input = read_from(rt, alloc, stream.0, 12, stream.1);
+    let mut output = Vec::new(alloc);
+    let end = if cached {
+        end_with(rt, alloc, &mut input, &mut output, turns)
+    } else {
+        end_without(rt, alloc, &mut input, &mut output, turns)
+    };
+    let found = (input.reads(), count_of(&output), end);
+    equal_at(rt, "reads, replies and an end", (turns, cached), found, due);
 }
 
 /// No more reads are made than there may be, and it ends as by a failed read only where one failed.

@@ -1,14 +1,16 @@
 //! Indexes and cuts.
 
+use crate::asserts::{equal, equal_at};
 use crate::calls::{
     cut, decode, decode_window, decode_window_by, file_of, index_of, many, sample, view,
 };
+use crate::many::MANY;
 use jk_marks::Order;
 use jk_math::{Fault, Image};
 use jk_window::{Index, View};
 use std::alloc::Global;
 use std::process::Abort;
-use vectors::{Line, equal, equal_at};
+use vectors::Line;
 
 /// One grey sample, 128, without levels.
 pub(crate) static PAGE: &str =
@@ -73,16 +75,24 @@ fn counts(index: &Index) -> (u16, Order, usize, u64) {
     )
 }
 
+/// The readers of the index of a file say this.
+fn reads(
+    rt: &impl Abort,
+    alloc: Global,
+    file: &str,
+    due: (u32, u32, u16, u8, u8),
+    others: (u16, Order, usize, u64),
+) {
+    let index = index_of(rt, alloc, &file_of(rt, alloc, &[file]));
+    equal(rt, "numbers", numbers(&index), due);
+    equal(rt, "counts", counts(&index), others);
+}
+
 #[test]
 fn readers(rt: HostRuntime) {
-    let page = file_of(&rt, rt.alloc(), &[PAGE]);
-    let page = index_of(&rt, rt.alloc(), &page);
-    equal(numbers(&page), (1, 1, 1, 8, 0)).expect(&rt, "a page");
-    equal(counts(&page), (1, Order::Lrcp, 1, 1)).expect(&rt, "a page");
-    let file = many(&rt, rt.alloc());
-    let index = index_of(&rt, rt.alloc(), &file);
-    equal(numbers(&index), (64, 64, 1, 8, 2)).expect(&rt, "many packets");
-    equal(counts(&index), (3, Order::Lrcp, 1, 252)).expect(&rt, "many packets");
+    let (page, of_many) = ((1, 1, 1, 8, 0), (64, 64, 1, 8, 2));
+    reads(&rt, rt.alloc(), PAGE, page, (1, Order::Lrcp, 1, 1));
+    reads(&rt, rt.alloc(), MANY, of_many, (3, Order::Lrcp, 1, 252));
 }
 
 /// The view of the lower resolution of a file of these texts is cut out as these texts.
@@ -97,8 +107,8 @@ fn cuts(
     let file = file_of(rt, alloc, old);
     let reply = cut_of(rt, alloc, &file, view);
     let due = file_of(rt, alloc, new);
-    equal((file.len(), reply.len()), lengths).expect(rt, "bytes");
-    equal(reply.as_slice(), due.as_slice()).expect(rt, "a cut");
+    equal(rt, "bytes", (file.len(), reply.len()), lengths);
+    equal(rt, "a cut", reply.as_slice(), due.as_slice());
 }
 
 /// The tile-part of 2 by 2 samples, and the same where the second packet is empty.
@@ -126,10 +136,10 @@ fn layers_of(rt: &impl Abort, alloc: Global, count: Option<u32>) -> Vec<u8> {
 fn keeps(rt: &impl Abort, alloc: Global, count: Option<u32>, rest: &str, length: usize, due: i32) {
     let reply = layers_of(rt, alloc, count);
     let wanted = file_of(rt, alloc, &[LAYERED, rest]);
-    equal_at(count, reply.as_slice(), wanted.as_slice()).expect(rt, "a cut");
-    equal_at(count, reply.len(), length).expect(rt, "bytes");
+    equal_at(rt, "a cut", count, reply.as_slice(), wanted.as_slice());
+    equal_at(rt, "bytes", count, reply.len(), length);
     let image = decode(alloc, &reply, 0).expect(rt, "an image");
-    equal_at(count, sample(&image, 0, 0), Some(due)).expect(rt, "a sample");
+    equal_at(rt, "a sample", count, sample(&image, 0, 0), Some(due));
 }
 
 /// The file of the first layers of a row.
@@ -177,11 +187,11 @@ fn in_layers(rt: &impl Abort, alloc: Global, count: u32, due: Result<usize, Faul
         ..view(0, 0, 0, 1, 1)
     };
     let found = length_of(cut(alloc, &kept, &file, asked));
-    equal_at(count, found, due).expect(rt, "a cut");
+    equal_at(rt, "a cut", count, found, due);
     let whole = sample_of(decode_window(alloc, &file, asked));
-    equal_at(count, whole, Ok(Some(255))).expect(rt, "by the bytes");
+    equal_at(rt, "by the bytes", count, whole, Ok(Some(255)));
     let by_index = sample_of(decode_window_by(alloc, &file, &kept, asked));
-    equal_at(count, by_index, Ok(Some(255))).expect(rt, "by the index");
+    equal_at(rt, "by the index", count, by_index, Ok(Some(255)));
 }
 
 /// A view in no layer has no cut. What is decoded has all layers, whatever layers the view asks for.
@@ -201,7 +211,18 @@ fn a_box_that_shrinks(rt: HostRuntime) {
 /// A view of a file has no cut.
 fn has_none(rt: &impl Abort, alloc: Global, kept: &Index, file: &[u8], view: View, due: Fault) {
     let fault = cut(alloc, kept, file, view).err();
-    equal_at(view, fault, Some(due)).expect(rt, "a fault");
+    equal_at(rt, "a fault", view, fault, Some(due));
+}
+
+/// A view of a file is the whole file.
+fn is_whole(rt: &impl Abort, alloc: Global, kept: &Index, file: &[u8], view: View) {
+    let whole = cut(alloc, kept, file, view).expect(rt, "a cut");
+    equal(rt, "a cut", whole.as_slice(), file);
+}
+
+/// What an index says of whether it sees a view.
+fn sees(kept: &Index, view: View) -> Result<(), Fault> {
+    kept.sees(view)
 }
 
 #[test]
@@ -209,11 +230,10 @@ fn views_without_a_window(rt: HostRuntime) {
     let file = file_of(&rt, rt.alloc(), &[COLUMN]);
     let kept = index_of(&rt, rt.alloc(), &file);
     let seen = view(0, 0, 8, 5, 5);
-    let whole = cut(rt.alloc(), &kept, &file, seen).expect(&rt, "a cut");
-    equal(whole.as_slice(), file.as_slice()).expect(&rt, "a cut");
-    equal(kept.sees(seen), Ok(())).expect(&rt, "a view");
-    let higher = kept.sees(view(2, 0, 0, 1, 1));
-    equal(higher, Err(Fault::BadWindow)).expect(&rt, "a view");
+    is_whole(&rt, rt.alloc(), &kept, &file, seen);
+    equal(&rt, "a view", sees(&kept, seen), Ok(()));
+    let higher = sees(&kept, view(2, 0, 0, 1, 1));
+    equal(&rt, "a view", higher, Err(Fault::BadWindow));
     let (below, narrow) = (view(0, 0, 9, 1, 1), view(0, 0, 0, 0, 1));
     has_none(&rt, rt.alloc(), &kept, &file, below, Fault::BadWindow);
     has_none(&rt, rt.alloc(), &kept, &file, narrow, Fault::BadWindow);
@@ -329,12 +349,12 @@ fn file_with(rt: &impl Abort, alloc: Global, file: &[u8], front: usize, packets:
 fn empties(rt: &impl Abort, alloc: Global, view: View, kept: &[usize], count: usize) -> Vec<u8> {
     let file = many(rt, alloc);
     let places = packet_places(rt, alloc, &file);
-    equal(places.len(), 253).expect(rt, "packets");
+    equal(rt, "packets", places.len(), 253);
     let (packets, emptied) = packets_kept(rt, alloc, &file, &places, kept);
-    equal(emptied, count).expect(rt, "packets that are emptied");
+    equal(rt, "packets that are emptied", emptied, count);
     let due = file_with(rt, alloc, &file, nth(&places, 0), &packets);
     let found = cut_of(rt, alloc, &file, view);
-    equal(found.as_slice(), due.as_slice()).expect(rt, "a cut");
+    equal(rt, "a cut", found.as_slice(), due.as_slice());
     found
 }
 
@@ -354,6 +374,11 @@ fn many_packets(rt: HostRuntime) {
     empties(&rt, rt.alloc(), view(0, 0, 0, 3, 3), &OF_CORNER, 243);
     let seen = view(0, 8, 8, 3, 3);
     let inner = empties(&rt, rt.alloc(), seen, &OF_INNER, 228);
-    let again = cut_of(&rt, rt.alloc(), &inner, seen);
-    equal(again.as_slice(), inner.as_slice()).expect(&rt, "a cut of a cut");
+    is_whole(
+        &rt,
+        rt.alloc(),
+        &index_of(&rt, rt.alloc(), &inner),
+        &inner,
+        seen,
+    );
 }

@@ -1,5 +1,6 @@
 //! Windows that are decoded, beside the whole image.
 
+use crate::asserts::equal_at;
 use crate::calls::{
     decode, decode_window, decode_window_by, file_of, index_of, many, sample, view, window_of,
 };
@@ -7,7 +8,6 @@ use jk_math::{Fault, Image};
 use jk_window::View;
 use std::alloc::Global;
 use std::process::Abort;
-use vectors::equal_at;
 
 /// How many samples of a decoded window are those of the image.
 fn same_samples(view: View, whole: &Image, part: &Image) -> u32 {
@@ -33,8 +33,8 @@ fn is_at(view: View, whole: &Image, part: &Image) -> bool {
 /// The decoded window of a view has its place on the image, and so many samples of it.
 fn has(rt: &impl Abort, view: View, whole: &Image, part: Result<Image, Fault>, due: u32) {
     let part = part.expect(rt, "a window");
-    equal_at(view, is_at(view, whole, &part), true).expect(rt, "a place");
-    equal_at(view, same_samples(view, whole, &part), due).expect(rt, "samples");
+    equal_at(rt, "a place", view, is_at(view, whole, &part), true);
+    equal_at(rt, "samples", view, same_samples(view, whole, &part), due);
 }
 
 /// So many samples of the decoded window of a view are those of the image: of the file, and of the
@@ -63,7 +63,7 @@ fn decoded_windows_are_those_of_the_image(rt: HostRuntime) {
 /// A view has no window.
 fn refused(rt: &impl Abort, alloc: Global, view: View) {
     let fault = decode_window(alloc, &many(rt, alloc), view).err();
-    equal_at(view, fault, Some(Fault::BadWindow)).expect(rt, "a fault");
+    equal_at(rt, "a fault", view, fault, Some(Fault::BadWindow));
 }
 
 #[test]
@@ -105,10 +105,16 @@ fn windows_by_the_index(rt: HostRuntime) {
     for (x, due) in [(0, Err(Fault::CodeOutOfInterval)), (1, Ok(Some(129)))] {
         let seen = view(0, x, 0, 1, 1);
         let found = shown(decode_window(alloc, &file, seen));
-        equal_at(seen, found, due).expect(&rt, "by the bytes");
+        equal_at(&rt, "by the bytes", seen, found, due);
         let found = by_index(&rt, alloc, &file, &file, seen);
-        equal_at(seen, found, due).expect(&rt, "by the index");
+        equal_at(&rt, "by the index", seen, found, due);
     }
     let changed = by_index(&rt, alloc, &many(&rt, alloc), &file, view(0, 1, 0, 1, 1));
-    equal_at("another file", changed, Err(Fault::Changed)).expect(&rt, "by the index");
+    equal_at(
+        &rt,
+        "by the index",
+        "another file",
+        changed,
+        Err(Fault::Changed),
+    );
 }

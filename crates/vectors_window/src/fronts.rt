@@ -1,12 +1,12 @@
 //! Fronts of files: no shorter one is a file.
 
+use crate::asserts::{equal, equal_at};
 use crate::calls::{cut, decode, file_of, index, index_of, view};
 use crate::cuts::{COLUMN, PAGE, PASSED, SMALL};
 use jk_math::Fault;
 use jk_window::Index;
 use std::alloc::Global;
 use std::process::Abort;
-use vectors::{equal, equal_at};
 
 /// What `index` and `decode` answer of a front, and `cut` by the index of the whole file.
 fn faults(alloc: Global, whole: &Index, front: &[u8]) -> [Option<Fault>; 3] {
@@ -43,13 +43,13 @@ fn due_of(length: usize, count: usize) -> Fault {
 /// Each front of a file of so many bytes is refused.
 fn refused(rt: &impl Abort, alloc: Global, texts: &[&str], length: usize) {
     let file = file_of(rt, alloc, texts);
-    equal(file.len(), length).expect(rt, "bytes");
+    equal(rt, "bytes", file.len(), length);
     let whole = index_of(rt, alloc, &file);
     for count in 0..file.len() {
         let due = Some(due_of(length, count));
         let answer = faults(alloc, &whole, &file[..count]);
         let wanted = [due, due, Some(Fault::Changed)];
-        equal_at((length, count), answer, wanted).expect(rt, "a front");
+        equal_at(rt, "a front", (length, count), answer, wanted);
     }
 }
 

@@ -1,12 +1,13 @@
 //! Files at the limits: the index of one grey sample's file with other numbers, with the answers of
 //! worked cases.
 
+use crate::asserts::equal_at;
 use crate::calls::{decode, file_of, index};
 use jk_math::Fault;
 use std::alloc::Global;
 use std::process::Abort;
 use std::rt::Files;
-use vectors::{Line, Told, equal_at, kilobytes};
+use vectors::{Line, Told, kilobytes};
 
 /// Width of the image and of its tiles, COD, QCD, what stands in front of SOD, and the answer of
 /// `index`. Tile-part and file end behind one empty packet.
@@ -56,7 +57,7 @@ fn answers(rt: &impl Abort, alloc: Global, row: &str, fault: Option<Fault>, due:
         Some(fault) => told.said(&fault),
     }
     let told = told.end().expect(rt, "a text");
-    equal_at(row, told.as_str(), due).expect(rt, "an answer");
+    equal_at(rt, "an answer", row, told.as_str(), due);
 }
 
 /// What `index` and `decode` answer of the file of a row.
@@ -77,7 +78,7 @@ static EMPTY: &str =
 fn takes<R: Files + Abort>(rt: &R, alloc: Global, before: u64, more: u64) {
     let taken = kilobytes(rt, alloc, "VmPeak:").expect(rt, "memory");
     let few = taken < before.saturating_add(more);
-    equal_at((before, taken), few, true).expect(rt, "kilobytes");
+    equal_at(rt, "kilobytes", (before, taken), few, true);
 }
 
 /// Each row has its answer, and none takes memory for what it claims alone; the image of a file

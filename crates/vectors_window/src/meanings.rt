@@ -1,11 +1,11 @@
 //! What the files of windows mean, beside the whole image.
 
+use crate::asserts::equal_at;
 use crate::calls::{decode, many, sample, view, window_of};
 use jk_math::Image;
 use jk_window::View;
 use std::alloc::Global;
 use std::process::Abort;
-use vectors::equal_at;
 
 /// How many places of a view two images have, with the same sample.
 fn same_samples(view: View, whole: &Image, part: &Image) -> u32 {
@@ -35,7 +35,7 @@ fn shows(rt: &impl Abort, alloc: Global, view: View, due: u32) -> u32 {
     let reply = window_of(rt, alloc, &file, view);
     let whole = image_of(rt, alloc, &file, view.reduce);
     let part = image_of(rt, alloc, &reply, view.reduce);
-    equal_at(view, same_samples(view, &whole, &part), due).expect(rt, "samples");
+    equal_at(rt, "samples", view, same_samples(view, &whole, &part), due);
     same_samples(all_of(view.reduce), &whole, &part)
 }
 
@@ -54,5 +54,5 @@ fn windows_are_those_of_the_image(rt: HostRuntime) {
     shows(&rt, alloc, view(2, 1, 0, 3, 16), 48);
     // The rest isn't that of the image.
     let fewer = [corner < 4096, inner < 4096, strip < 4096];
-    equal_at([corner, inner, strip], fewer, [true; 3]).expect(&rt, "the rest");
+    equal_at(&rt, "the rest", [corner, inner, strip], fewer, [true; 3]);
 }

@@ -1,11 +1,12 @@
 //! Decoded windows, with samples from another codec.
 
+use crate::asserts::{equal, equal_at};
 use crate::calls::{decode_window, decode_window_by, file_of, index_of, window};
 use jk_math::{Fault, Image};
 use jk_window::{Index, View};
 use std::alloc::Global;
 use std::process::Abort;
-use vectors::{Line, Told, equal, equal_at};
+use vectors::{Line, Told};
 
 /// A codestream of 13 by 11 samples of two signed components at (5, 3), in four tiles of 9 by 7,
 /// with two levels, code-blocks of 4 by 4, precincts, two layers, SOP and EPH, in the order PCRL,
@@ -174,7 +175,7 @@ fn shows(rt: &impl Abort, alloc: Global, row: &str, answer: Result<Image, Fault>
         Err(fault) => told.said(&fault),
     }
     let told = told.end().expect(rt, "a text");
-    equal_at(row, told.as_str(), due).expect(rt, "a window");
+    equal_at(rt, "a window", row, told.as_str(), due);
 }
 
 /// What the window of a view decodes to in the file of the window.
@@ -203,7 +204,7 @@ fn alike(rt: &impl Abort, alloc: Global, file: &str, views: &str, due: u32) {
         shows(rt, alloc, row, by_index, due);
         count = count.saturating_add(1);
     }
-    equal(count, due).expect(rt, "views");
+    equal(rt, "views", count, due);
 }
 
 /// So many files of windows of views decode to what is due.
@@ -216,7 +217,7 @@ fn layered(rt: &impl Abort, alloc: Global, file: &str, views: &str, due: u32) {
         shows(rt, alloc, row, of_reply(alloc, &file, &kept, view), due);
         count = count.saturating_add(1);
     }
-    equal(count, due).expect(rt, "views");
+    equal(rt, "views", count, due);
 }
 
 /// One sample, each border, windows over all tiles, odd places, reductions, what passes the edge,

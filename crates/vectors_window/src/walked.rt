@@ -1,11 +1,12 @@
 //! Plans of many views of files with all orders, against those that a walk over every packet gave.
 
+use crate::asserts::equal_at;
 use crate::calls::index_of;
 use jk_math::Fault;
 use jk_window::{CutPlan, Index, View, plan};
 use std::alloc::Global;
 use std::process::Abort;
-use vectors::{Line, drawn, equal_at, folded, sum_of};
+use vectors::{Line, drawn, folded, sum_of};
 
 /// How many views are drawn of each file.
 const VIEWS: u32 = 200;
@@ -121,7 +122,13 @@ fn plans_are(rt: &impl Abort, alloc: Global, row: &str) {
     let file = file_of_row(rt, alloc, &mut line);
     line.end().expect(rt, "a row");
     let index = index_of(rt, alloc, &file);
-    equal_at(index.order(), sum_of_plans(alloc, &index) as u64, due).expect(rt, "plans");
+    equal_at(
+        rt,
+        "plans",
+        index.order(),
+        sum_of_plans(alloc, &index) as u64,
+        due,
+    );
 }
 
 #[test]

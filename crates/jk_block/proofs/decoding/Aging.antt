@@ -203,10 +203,10 @@ pub record Aged (s : BlockShape) (magnitude : Field ℕ) (b : ℕ) (refined olde
   pub refined_is : (x y : ℕ) → is_inside s x y ≡ true → flag_at s refined x y ≡ nat_le (2 ^ (b + 2)) (magnitude x y)
   pub older_is : (x y : ℕ) → is_inside s x y ≡ true → flag_at s older x y ≡ nat_le (2 ^ (b + 1)) (magnitude x y)
 
-pub aged_none : (s : BlockShape) (magnitude : Field ℕ) (b size : ℕ) (refined older : List ℕ) → refined ≡ replicate size 0 → older ≡ replicate size 0 → ((x y : ℕ) → magnitude x y ≡ 0) → Aged s magnitude b refined older
-aged_none s magnitude b size refined older r o z = record {
-  refined_is = λ x y i. ap (λ (ws : List ℕ). flag_at s ws x y) r ∙ flag_none s size x y ∙ sym (none (2 ^ (b + 2)) (magnitude x y) (pow_pos (b + 2)) (z x y));
-  older_is = λ x y i. ap (λ (ws : List ℕ). flag_at s ws x y) o ∙ flag_none s size x y ∙ sym (none (2 ^ (b + 1)) (magnitude x y) (pow_pos (b + 1)) (z x y));
+pub aged_none : (s : BlockShape) (magnitude : Field ℕ) (b n m : ℕ) (refined older : List ℕ) → refined ≡ replicate n 0 → older ≡ replicate m 0 → ((x y : ℕ) → magnitude x y ≡ 0) → Aged s magnitude b refined older
+aged_none s magnitude b n m refined older r o z = record {
+  refined_is = λ x y i. ap (λ (ws : List ℕ). flag_at s ws x y) r ∙ flag_none s n x y ∙ sym (none (2 ^ (b + 2)) (magnitude x y) (pow_pos (b + 2)) (z x y));
+  older_is = λ x y i. ap (λ (ws : List ℕ). flag_at s ws x y) o ∙ flag_none s m x y ∙ sym (none (2 ^ (b + 1)) (magnitude x y) (pow_pos (b + 1)) (z x y));
 }
   where
     none : (p m : ℕ) → 0 < p → m ≡ 0 → nat_le p m ≡ false

@@ -139,14 +139,14 @@ value_back eight c v e =
 -- ---- bits put together, the highest first
 
 -- So many of them, below plane top.
-abbrev pub HasBitsTo : {size : ℕ} (block_state : BlockState size) (at k top n bytes : ℕ) → Type 0
+abbrev pub HasBitsTo : (block_state : BlockState) (at k top n bytes : ℕ) → Type 0
 HasBitsTo block_state at k top n bytes =
     (c i : ℕ) → c < 8 → i < 8 → on bytes (8 * c + i) ≡ (nat_lt i n && on (get_or block_state.bits.items ((top - n + i) * words_of block_state.shape + at) 0) (8 * c + k))
 
-pub bits_none : {size : ℕ} (block_state : BlockState size) (at k top : ℕ) → HasBitsTo block_state at k top 0 0
+pub bits_none : (block_state : BlockState) (at k top : ℕ) → HasBitsTo block_state at k top 0 0
 bits_none block_state at k top c i p q = on_zero (8 * c + i) ∙ sym (ap (λ t. t && on (get_or block_state.bits.items ((top - 0 + i) * words_of block_state.shape + at) 0) (8 * c + k)) (lt_false i 0 (omega arith)))
 
-pub bits_more : {size : ℕ} (block_state : BlockState size) (at k top n bytes word new : ℕ) → n < 8 → n < top → word ≡ get_or block_state.bits.items ((top - (n + 1)) * words_of block_state.shape + at) 0 → ((c i : ℕ) → c < 8 → i < 8 → on new (8 * c + i) ≡ (nat_eq i 0 && on word (8 * c + k)))
+pub bits_more : (block_state : BlockState) (at k top n bytes word new : ℕ) → n < 8 → n < top → word ≡ get_or block_state.bits.items ((top - (n + 1)) * words_of block_state.shape + at) 0 → ((c i : ℕ) → c < 8 → i < 8 → on new (8 * c + i) ≡ (nat_eq i 0 && on word (8 * c + k)))
     → HasBitsTo block_state at k top n bytes → HasBitsTo block_state at k top (n + 1) (bit_or (bytes * 2 ^ 1 % 2 ^ 64) new)
 bits_more block_state at k top n bytes word new few less word_is new_is h c i p q =
     on_or (bytes * 2 ^ 1 % 2 ^ 64) new (8 * c + i) ∙ ap (λ t. on (bytes * 2 ^ 1 % 2 ^ 64) (8 * c + i) || t) (new_is c i p q) ∙ by i q
@@ -183,7 +183,7 @@ bits_more block_state at k top n bytes word new few less word_is new_is h c i p 
         ∙ on_shl bytes 1 64 (8 * c + i) (8 * c + suc i) (omega arith) (omega arith) ∙ h c i p (omega arith)
         ∙ ap (λ b. nat_lt i n && plane b) (let e : top - n + i ≡ top - (n + 1) + suc i = omega (arith, less) in e) ∙ ap (λ t. t && plane (top - (n + 1) + suc i)) (suc_lt i n)
 
-pub bits_all : {size : ℕ} (block_state : BlockState size) (at k first count n bytes : ℕ) → n ≡ count → count ≡ min (block_state.planes - first) 8 → HasBitsTo block_state at k (first + count) n bytes → HasBits block_state at k first bytes
+pub bits_all : (block_state : BlockState) (at k first count n bytes : ℕ) → n ≡ count → count ≡ min (block_state.planes - first) 8 → HasBitsTo block_state at k (first + count) n bytes → HasBits block_state at k first bytes
 bits_all block_state at k first count n bytes all is h c i p q =
     h c i p q
     ∙ ap (λ b. nat_lt i n && on (get_or block_state.bits.items (b * words_of block_state.shape + at) 0) (8 * c + k)) (let e : first + count - n + i ≡ first + i = omega (arith, all) in e)
@@ -196,7 +196,7 @@ bits_all block_state at k first count n bytes all is h c i p q =
     ]
 
 -- a word of a plane that the sketch has
-pub plane_item : {size : ℕ} (block_state : BlockState size) (at b n q : ℕ) → n ≡ words_of block_state.shape → q ≡ b * n + at → at < words_of block_state.shape → b < block_state.planes → q < length block_state.bits.items
+pub plane_item : (block_state : BlockState) (at b n q : ℕ) → n ≡ words_of block_state.shape → q ≡ b * n + at → at < words_of block_state.shape → b < block_state.planes → q < length block_state.bits.items
 plane_item block_state at b n q n_is q_is h l =
     let m = mul-add-lt b (words_of block_state.shape) at block_state.planes l h in
     let c = mul_comm (words_of block_state.shape) block_state.planes in
@@ -205,26 +205,26 @@ plane_item block_state at b n q n_is q_is h l =
     omega (arith, m, c, e, r)
 
 -- the places of a word in a row
-pub byte_places : {size : ℕ} (block_state : BlockState size) (j y at k first bytes : ℕ) → at ≡ word_at block_state.shape (j + 1) (y / 4 + 1) → k ≡ y % 4 + 1 → HasBits block_state at k first bytes → HasByte block_state first j y bytes
+pub byte_places : (block_state : BlockState) (j y at k first bytes : ℕ) → at ≡ word_at block_state.shape (j + 1) (y / 4 + 1) → k ≡ y % 4 + 1 → HasBits block_state at k first bytes → HasByte block_state first j y bytes
 byte_places block_state j y at k first bytes at_is k_is h c i p q =
     h c i p q
     ∙ ap (λ a. nat_lt (first + i) block_state.planes && on (get_or block_state.bits.items ((first + i) * words_of block_state.shape + a) 0) (8 * c + k)) (at_is ∙ ap (λ n. word_at block_state.shape (n + 1) (y / 4 + 1)) (let e : j ≡ (8 * j + c) / 8 = omega arith in e))
     ∙ ap (λ m. nat_lt (first + i) block_state.planes && on (get_or block_state.bits.items ((first + i) * words_of block_state.shape + word_at block_state.shape ((8 * j + c) / 8 + 1) (y / 4 + 1)) 0) m) (let e : 8 * c + k ≡ 8 * ((8 * j + c) % 8) + (y % 4 + 1) = omega (arith, k_is) in e)
 
-pub sign_places : {size : ℕ} (block_state : BlockState size) (j y at k word : ℕ) → at ≡ word_at block_state.shape (j + 1) (y / 4 + 1) → k ≡ y % 4 + 1 → ((c i : ℕ) → c < 8 → i < 8 → on word (8 * c + i) ≡ (nat_eq i 0 && on (get_or block_state.negative at 0) (8 * c + k)))
-    → (c : ℕ) → c < 8 → on word (8 * c) ≡ flag_at block_state.shape block_state.negative (8 * j + c) y
+pub sign_places : (block_state : BlockState) (j y at k word : ℕ) → at ≡ word_at block_state.shape (j + 1) (y / 4 + 1) → k ≡ y % 4 + 1 → ((c i : ℕ) → c < 8 → i < 8 → on word (8 * c + i) ≡ (nat_eq i 0 && on (get_or block_state.negative.now at 0) (8 * c + k)))
+    → (c : ℕ) → c < 8 → on word (8 * c) ≡ flag_at block_state.shape block_state.negative.now (8 * j + c) y
 sign_places block_state j y at k word at_is k_is h c p =
     ap (on word) (let e : 8 * c ≡ 8 * c + 0 = omega arith in e) ∙ h c 0 p (omega arith)
-    ∙ ap (λ a. on (get_or block_state.negative a 0) (8 * c + k)) (at_is ∙ ap (λ n. word_at block_state.shape (n + 1) (y / 4 + 1)) (let e : j ≡ (8 * j + c) / 8 = omega arith in e))
-    ∙ ap (on (get_or block_state.negative (word_at block_state.shape ((8 * j + c) / 8 + 1) (y / 4 + 1)) 0)) (let e : 8 * c + k ≡ 8 * ((8 * j + c) % 8) + (y % 4 + 1) = omega (arith, k_is) in e)
+    ∙ ap (λ a. on (get_or block_state.negative.now a 0) (8 * c + k)) (at_is ∙ ap (λ n. word_at block_state.shape (n + 1) (y / 4 + 1)) (let e : j ≡ (8 * j + c) / 8 = omega arith in e))
+    ∙ ap (on (get_or block_state.negative.now (word_at block_state.shape ((8 * j + c) / 8 + 1) (y / 4 + 1)) 0)) (let e : 8 * c + k ≡ 8 * ((8 * j + c) % 8) + (y % 4 + 1) = omega (arith, k_is) in e)
 
 -- a coefficient of eight is that of its place
-pub value_at : {size : ℕ} (block_state : BlockState size) (j y : ℕ) (eight : Eight) (c : ℕ) → IsEight block_state j y eight → c < 8 → is_inside block_state.shape (8 * j + c) y ≡ true → block_state.planes ≤ 23
+pub value_at : (block_state : BlockState) (j y : ℕ) (eight : Eight) (c : ℕ) → IsEight block_state j y eight → c < 8 → is_inside block_state.shape (8 * j + c) y ≡ true → block_state.planes ≤ 23
     → value_of eight c ≡ with_sign ((draft_of block_state).negative (8 * j + c) y) ((draft_of block_state).magnitude (8 * j + c) y)
 value_at block_state j y eight c e p inside few =
     let s = block_state.shape in
     let f : ℕ → Bool = λ b. plane_bit s block_state.bits.items b (8 * j + c) y in
-    ap (λ b. with_sign b (number_from (eight_bit eight c) 0 24)) (e.negative c p ∙ sym (ap (λ b. b && flag_at s block_state.negative (8 * j + c) y) inside))
+    ap (λ b. with_sign b (number_from (eight_bit eight c) 0 24)) (e.negative c p ∙ sym (ap (λ b. b && flag_at s block_state.negative.now (8 * j + c) y) inside))
     ∙ ap (with_sign ((draft_of block_state).negative (8 * j + c) y))
     (number_same (eight_bit eight c) (λ b. nat_lt b block_state.planes && f b) 0 24 (λ b h l. bits b (omega arith)) ∙ limited f block_state.planes (omega (arith, few)) ∙ sym (ap (λ b. cond b (number_from f 0 block_state.planes) 0) inside))
   where
@@ -253,7 +253,7 @@ value_at block_state j y eight c e p inside few =
         ∙ (let q : number_from g 0 n + 2 ^ n * 0 ≡ number_from g 0 n = omega arith in q)
         ∙ number_same g f 0 n (λ b l m. ap (λ t. t && f b) (lt_true b n (omega (arith, m))))
 
-pub value_in_row : {size : ℕ} (block_state : BlockState size) (j y : ℕ) (eight : Eight) (c a : ℕ) → IsEight block_state j y eight → a ≡ 8 * j → 8 * j + c < block_state.shape.width → y < block_state.shape.height → c < 8
+pub value_in_row : (block_state : BlockState) (j y : ℕ) (eight : Eight) (c a : ℕ) → IsEight block_state j y eight → a ≡ 8 * j → 8 * j + c < block_state.shape.width → y < block_state.shape.height → c < 8
     → with_sign ((draft_of block_state).negative (a + c) y) ((draft_of block_state).magnitude (a + c) y) ≡ value_of eight c
 value_in_row block_state j y eight c a e a_is column row p =
     ap (λ a. with_sign ((draft_of block_state).negative (a + c) y) ((draft_of block_state).magnitude (a + c) y)) a_is

@@ -92,7 +92,7 @@ equal_self a = grind (arith, nat_tests)
 -- ---- places that have become significant
 
 -- What is known where words are put back.
-pub record Puts (at : WordPlace) {size : ℕ} (w : BlockState size) (p q : ℕ) : Type 0 where
+pub record Puts (at : WordPlace) (w : BlockState) (p q : ℕ) : Type 0 where
   pub word : at.word < across w.shape
   pub stripe : at.stripe < stripes w.shape
   pub plane : at.plane < w.planes
@@ -102,37 +102,37 @@ pub record Puts (at : WordPlace) {size : ℕ} (w : BlockState size) (p q : ℕ) 
 abbrev pub significant_word : (sight : Sight) (limits : ℕ) → ℕ
 significant_word sight limits = bit_and sight.significant.centre limits
 
-abbrev pub new_word : {size : ℕ} (w : BlockState size) (sight : Sight) (limits p : ℕ) → ℕ
-new_word w sight limits p = bit_and (significant_word sight limits) (bit_not w64 (get_or w.significant p 0))
+abbrev pub new_word : (w : BlockState) (sight : Sight) (limits p : ℕ) → ℕ
+new_word w sight limits p = bit_and (significant_word sight limits) (bit_not w64 (get_or w.significant.now p 0))
 
-abbrev pub significant_bits : {size : ℕ} (w : BlockState size) (sight : Sight) (limits p q : ℕ) → List ℕ
+abbrev pub significant_bits : (w : BlockState) (sight : Sight) (limits p q : ℕ) → List ℕ
 significant_bits w sight limits p q = set w.bits.items q (bit_or (get_or w.bits.items q 0) (new_word w sight limits p))
 
-plane_index : (at : WordPlace) {size : ℕ} (w : BlockState size) (p q : ℕ) → Puts at w p q → q ≡ at.plane * words_of w.shape + word_at w.shape (at.word + 1) (at.stripe + 1)
+plane_index : (at : WordPlace) (w : BlockState) (p q : ℕ) → Puts at w p q → q ≡ at.plane * words_of w.shape + word_at w.shape (at.word + 1) (at.stripe + 1)
 plane_index at w p q a = a.plane_place ∙ ap (λ p. at.plane * words_of w.shape + p) a.place
 
-pub plane_room : (at : WordPlace) {size : ℕ} (w : BlockState size) (p q : ℕ) → Puts at w p q → q < length w.bits.items
+pub plane_room : (at : WordPlace) (w : BlockState) (p q : ℕ) → Puts at w p q → q < length w.bits.items
 plane_room at w p q a = let i = index_of w.shape w.planes at.plane (at.word + 1) (at.stripe + 1) a.plane (let h = a.word in omega (arith, h)) (let h = a.stripe in omega (arith, h)) in let e = plane_index at w p q a in let r = w.room in omega (arith, i, e, r)
 
 absorbed : (a b : Bool) → (a && (a && b)) ≡ (a && b)
 absorbed true b = refl
 absorbed false b = refl
 
-module_lit : (at : WordPlace) {size : ℕ} (w : BlockState size) (d : Draft) → d.shape ≡ w.shape → (x y : ℕ) → significant_in d x y ≡ significant_of w.shape d.magnitude x y
+module_lit : (at : WordPlace) (w : BlockState) (d : Draft) → d.shape ≡ w.shape → (x y : ℕ) → significant_in d x y ≡ significant_of w.shape d.magnitude x y
 module_lit at w d e x y = ap (λ (s : BlockShape). significant_of s d.magnitude x y) e
 
 -- which places of the word are new
-new_bit : (at : WordPlace) {size : ℕ} (w : BlockState size) (sight : Sight) (d : Draft) (limits p q x y : ℕ) → Puts at w p q → Shows of_rows (bordered (is_inside w.shape)) (at.word + 1) (at.stripe + 1) limits → Held at (draft_of w) sight d → get_or w.significant p 0 < 2 ^ 64
+new_bit : (at : WordPlace) (w : BlockState) (sight : Sight) (d : Draft) (limits p q x y : ℕ) → Puts at w p q → Shows of_rows (bordered (is_inside w.shape)) (at.word + 1) (at.stripe + 1) limits → Held at (draft_of w) sight d → get_or w.significant.now p 0 < 2 ^ 64
     → is_in_word at.word at.stripe x y ≡ true → on (new_word w sight limits p) (own_bit x y) ≡ (significant_of w.shape d.magnitude x y && not (significant_in (draft_of w) x y))
 new_bit at w sight d limits p q x y a lim h room word =
-    on_and (significant_word sight limits) (bit_not w64 (get_or w.significant p 0)) (own_bit x y)
-    ∙ ap (λ b. b && on (bit_not w64 (get_or w.significant p 0)) (own_bit x y))
+    on_and (significant_word sight limits) (bit_not w64 (get_or w.significant.now p 0)) (own_bit x y)
+    ∙ ap (λ b. b && on (bit_not w64 (get_or w.significant.now p 0)) (own_bit x y))
     (own_place w.shape d.shape (significant_in d) at.word at.stripe sight.significant.centre limits x y h.sees.significant.centre lim word ∙ ap (λ b. is_inside w.shape x y && b) (module_lit at w d h.shape x y) ∙ absorbed (is_inside w.shape x y) (nat_lt 0 (d.magnitude x y)))
-    ∙ ap (λ b. significant_of w.shape d.magnitude x y && b) (on_not w64 (get_or w.significant p 0) (own_bit x y) room (bit_within x y) ∙ ap (λ p. not (on (get_or w.significant p 0) (own_bit x y))) a.place
-    ∙ ap not (drawn_place w.shape (significant_in (draft_of w)) w.significant at.word at.stripe x y w.known_significant a.word a.stripe word))
+    ∙ ap (λ b. significant_of w.shape d.magnitude x y && b) (on_not w64 (get_or w.significant.now p 0) (own_bit x y) room (bit_within x y) ∙ ap (λ p. not (on (get_or w.significant.now p 0) (own_bit x y))) a.place
+    ∙ ap not (drawn_place w.shape (significant_in (draft_of w)) w.significant.now at.word at.stripe x y w.known_significant a.word a.stripe word))
 
 -- which bits a plane has behind it
-significant_bit : (at : WordPlace) {size : ℕ} (w : BlockState size) (sight : Sight) (limits p q c x y : ℕ) → Puts at w p q → is_inside w.shape x y ≡ true
+significant_bit : (at : WordPlace) (w : BlockState) (sight : Sight) (limits p q c x y : ℕ) → Puts at w p q → is_inside w.shape x y ≡ true
     → plane_bit w.shape (significant_bits w sight limits p q) c x y ≡ (plane_bit w.shape w.bits.items c x y || ((nat_eq c at.plane && is_in_word at.word at.stripe x y) && on (new_word w sight limits p) (own_bit x y)))
 significant_bit at w sight limits p q c x y a inside =
     let new = new_word w sight limits p in
@@ -151,7 +151,7 @@ significant_bit at w sight limits p q c x y a inside =
     or_false true = refl
     or_false false = refl
 
-pub significant_magnitude : (at : WordPlace) {size : ℕ} (w : BlockState size) (sight : Sight) (d : Draft) (limits p q : ℕ) → Puts at w p q → Shows of_rows (bordered (is_inside w.shape)) (at.word + 1) (at.stripe + 1) limits → Held at (draft_of w) sight d → get_or w.significant p 0 < 2 ^ 64
+pub significant_magnitude : (at : WordPlace) (w : BlockState) (sight : Sight) (d : Draft) (limits p q : ℕ) → Puts at w p q → Shows of_rows (bordered (is_inside w.shape)) (at.word + 1) (at.stripe + 1) limits → Held at (draft_of w) sight d → get_or w.significant.now p 0 < 2 ^ 64
     → magnitude_of w.shape w.planes (significant_bits w sight limits p q) ≡ d.magnitude
 significant_magnitude at w sight d limits p q a lim h room = same_field (magnitude_of w.shape w.planes (significant_bits w sight limits p q)) d.magnitude (λ x y. same_or (is_inside w.shape x y) (inside x y) (outside x y))
   where
@@ -230,19 +230,19 @@ significant_magnitude at w sight d limits p q a lim h room = same_field (magnitu
         or_true false = refl
 
 -- the signs
-abbrev pub sign_words : {size : ℕ} (w : BlockState size) (sight : Sight) (limits p : ℕ) → List ℕ
-sign_words w sight limits p = set w.negative p (bit_and sight.negative.centre limits)
+abbrev pub sign_words : (w : BlockState) (sight : Sight) (limits p : ℕ) → List ℕ
+sign_words w sight limits p = set w.negative.now p (bit_and sight.negative.centre limits)
 
 -- nothing outside is negative
-sign_inside : (at : WordPlace) {size : ℕ} (w : BlockState size) (sight : Sight) (d : Draft) → Held at (draft_of w) sight d → (x y : ℕ) → (is_inside w.shape x y && d.negative x y) ≡ d.negative x y
+sign_inside : (at : WordPlace) (w : BlockState) (sight : Sight) (d : Draft) → Held at (draft_of w) sight d → (x y : ℕ) → (is_inside w.shape x y && d.negative x y) ≡ d.negative x y
 sign_inside at w sight d h x y = same_or (is_inside w.shape x y)
     (λ i. ap (λ b. b && d.negative x y) i)
     (λ o. ap (λ b. b && d.negative x y) o ∙ elim (h.changed x y) [
-      | inl same ↦ sym (same.negative ∙ ap (λ b. b && flag_at w.shape w.negative x y) o)
+      | inl same ↦ sym (same.negative ∙ ap (λ b. b && flag_at w.shape w.negative.now x y) o)
       | inr new ↦ absurd (let i : is_inside w.shape x y ≡ true = ap (λ (s : BlockShape). is_inside s x y) (sym h.shape) ∙ new.inside in let c : true ≡ false = sym i ∙ o in cc)
     ])
 
-pub significant_signs : (at : WordPlace) {size : ℕ} (w : BlockState size) (sight : Sight) (d : Draft) (limits p q : ℕ) → Puts at w p q → words_of w.shape ≤ length w.negative → Shows of_rows (bordered (is_inside w.shape)) (at.word + 1) (at.stripe + 1) limits → Held at (draft_of w) sight d
+pub significant_signs : (at : WordPlace) (w : BlockState) (sight : Sight) (d : Draft) (limits p q : ℕ) → Puts at w p q → words_of w.shape ≤ length w.negative.now → Shows of_rows (bordered (is_inside w.shape)) (at.word + 1) (at.stripe + 1) limits → Held at (draft_of w) sight d
     → flagged w.shape (sign_words w sight limits p) ≡ d.negative
 significant_signs at w sight d limits p q a len lim h = same_field (flagged w.shape (sign_words w sight limits p)) d.negative (λ x y. same_or (is_inside w.shape x y) (inside x y)
     (λ o. ap (λ b. b && flag_at w.shape (sign_words w sight limits p) x y) o ∙ sym (sym (sign_inside at w sight d h x y) ∙ ap (λ b. b && d.negative x y) o)))
@@ -250,13 +250,13 @@ significant_signs at w sight d limits p q a len lim h = same_field (flagged w.sh
     inside : (x y : ℕ) → is_inside w.shape x y ≡ true → flagged w.shape (sign_words w sight limits p) x y ≡ d.negative x y
     inside x y i =
         ap (λ b. b && flag_at w.shape (sign_words w sight limits p) x y) i
-        ∙ flag_word w.shape w.negative at.word at.stripe p (bit_and sight.negative.centre limits) x y w.sized len a.word a.stripe a.place i
+        ∙ flag_word w.shape w.negative.now at.word at.stripe p (bit_and sight.negative.centre limits) x y w.sized len a.word a.stripe a.place i
         ∙ same_or (is_in_word at.word at.stripe x y)
-        (λ word. ap (λ t. cond t (on (bit_and sight.negative.centre limits) (own_bit x y)) (flag_at w.shape w.negative x y)) word
+        (λ word. ap (λ t. cond t (on (bit_and sight.negative.centre limits) (own_bit x y)) (flag_at w.shape w.negative.now x y)) word
         ∙ own_place w.shape d.shape d.negative at.word at.stripe sight.negative.centre limits x y h.sees.negative.centre lim word ∙ sign_inside at w sight d h x y)
-        (λ away. ap (λ t. cond t (on (bit_and sight.negative.centre limits) (own_bit x y)) (flag_at w.shape w.negative x y)) away
+        (λ away. ap (λ t. cond t (on (bit_and sight.negative.centre limits) (own_bit x y)) (flag_at w.shape w.negative.now x y)) away
         ∙ elim (h.changed x y) [
-          | inl same ↦ sym (same.negative ∙ ap (λ b. b && flag_at w.shape w.negative x y) i)
+          | inl same ↦ sym (same.negative ∙ ap (λ b. b && flag_at w.shape w.negative.now x y) i)
           | inr new ↦ absurd (let word = new.word in let c : true ≡ false = sym word ∙ away in cc)
         ])
 
@@ -264,31 +264,31 @@ apart_word : (j i x y : ℕ) → (x / 8 ≡ j → y / 4 ≡ i → ⊥) → is_in
 apart_word j i x y away word =
     let p = and_parts (nat_eq (x / 8) j) (nat_eq (y / 4) i) word in away (equal_true (x / 8) j p.0) (equal_true (y / 4) i p.1)
 
-pub signs_drawn : (at : WordPlace) {size : ℕ} (w : BlockState size) (sight : Sight) (d : Draft) (limits p q : ℕ) → Puts at w p q → words_of w.shape ≤ length w.negative → Shows of_rows (bordered (is_inside w.shape)) (at.word + 1) (at.stripe + 1) limits → Held at (draft_of w) sight d
+pub signs_drawn : (at : WordPlace) (w : BlockState) (sight : Sight) (d : Draft) (limits p q : ℕ) → Puts at w p q → words_of w.shape ≤ length w.negative.now → Shows of_rows (bordered (is_inside w.shape)) (at.word + 1) (at.stripe + 1) limits → Held at (draft_of w) sight d
     → IsDrawn w.shape (flagged w.shape (sign_words w sight limits p)) (sign_words w sight limits p)
 signs_drawn at w sight d limits p q a len lim h =
     subst (λ (f : Truths). IsDrawn w.shape f (sign_words w sight limits p)) (sym (significant_signs at w sight d limits p q a len lim h))
-    (subst (λ p. IsDrawn w.shape d.negative (set w.negative p (bit_and sight.negative.centre limits))) (sym a.place)
-    (word_drawn w.shape (flagged w.shape w.negative) d.negative w.negative at.word at.stripe (bit_and sight.negative.centre limits) w.sized len a.word a.stripe w.signs
+    (subst (λ p. IsDrawn w.shape d.negative (set w.negative.now p (bit_and sight.negative.centre limits))) (sym a.place)
+    (word_drawn w.shape (flagged w.shape w.negative.now) d.negative w.negative.now at.word at.stripe (bit_and sight.negative.centre limits) w.sized len a.word a.stripe w.signs
     (λ m l. own_bits w.shape d.shape d.negative at.word at.stripe sight.negative.centre limits m h.sees.negative.centre lim l ∙ ap (λ b. of_rows (m % 8) && b) (sign_inside at w sight d h (column at.word m) (row at.stripe m)))
     (λ x y away. elim (h.changed x y) [ inl same ↦ same.negative | inr new ↦ absurd (apart_word at.word at.stripe x y away new.word) ])))
 
-pub significant_drawn : (at : WordPlace) {size : ℕ} (w : BlockState size) (sight : Sight) (d : Draft) (limits p q : ℕ) → Puts at w p q → words_of w.shape ≤ length w.significant → Shows of_rows (bordered (is_inside w.shape)) (at.word + 1) (at.stripe + 1) limits → Held at (draft_of w) sight d → get_or w.significant p 0 < 2 ^ 64
-    → IsDrawn w.shape (significant_of w.shape (magnitude_of w.shape w.planes (significant_bits w sight limits p q))) (set w.significant p (significant_word sight limits))
+pub significant_drawn : (at : WordPlace) (w : BlockState) (sight : Sight) (d : Draft) (limits p q : ℕ) → Puts at w p q → words_of w.shape ≤ length w.significant.now → Shows of_rows (bordered (is_inside w.shape)) (at.word + 1) (at.stripe + 1) limits → Held at (draft_of w) sight d → get_or w.significant.now p 0 < 2 ^ 64
+    → IsDrawn w.shape (significant_of w.shape (magnitude_of w.shape w.planes (significant_bits w sight limits p q))) (set w.significant.now p (significant_word sight limits))
 significant_drawn at w sight d limits p q a len lim h room =
-    subst (λ (m : Field ℕ). IsDrawn w.shape (significant_of w.shape m) (set w.significant p (significant_word sight limits))) (sym (significant_magnitude at w sight d limits p q a lim h room))
-    (subst (λ p. IsDrawn w.shape (significant_of w.shape d.magnitude) (set w.significant p (significant_word sight limits))) (sym a.place)
-    (word_drawn w.shape (significant_in (draft_of w)) (significant_of w.shape d.magnitude) w.significant at.word at.stripe (significant_word sight limits) w.sized len a.word a.stripe w.known_significant
+    subst (λ (m : Field ℕ). IsDrawn w.shape (significant_of w.shape m) (set w.significant.now p (significant_word sight limits))) (sym (significant_magnitude at w sight d limits p q a lim h room))
+    (subst (λ p. IsDrawn w.shape (significant_of w.shape d.magnitude) (set w.significant.now p (significant_word sight limits))) (sym a.place)
+    (word_drawn w.shape (significant_in (draft_of w)) (significant_of w.shape d.magnitude) w.significant.now at.word at.stripe (significant_word sight limits) w.sized len a.word a.stripe w.known_significant
     (λ m l. own_bits w.shape d.shape (significant_in d) at.word at.stripe sight.significant.centre limits m h.sees.significant.centre lim l
     ∙ ap (λ b. of_rows (m % 8) && b) (ap (λ b. is_inside w.shape (column at.word m) (row at.stripe m) && b) (module_lit at w d h.shape (column at.word m) (row at.stripe m)) ∙ absorbed (is_inside w.shape (column at.word m) (row at.stripe m)) (nat_lt 0 (d.magnitude (column at.word m) (row at.stripe m)))))
     (λ x y away. elim (h.changed x y) [ inl same ↦ ap (λ m. is_inside w.shape x y && nat_lt 0 m) same.magnitude | inr new ↦ absurd (apart_word at.word at.stripe x y away new.word) ])))
 
 -- ---- places that were significant before
 
-abbrev pub refined_bits : {size : ℕ} (w : BlockState size) (places ones q : ℕ) → List ℕ
+abbrev pub refined_bits : (w : BlockState) (places ones q : ℕ) → List ℕ
 refined_bits w places ones q = set w.bits.items q (bit_or (bit_and (get_or w.bits.items q 0) (bit_not w64 places)) ones)
 
-refined_bit : (at : WordPlace) {size : ℕ} (w : BlockState size) (places ones p q c x y : ℕ) → Puts at w p q → places < 2 ^ 64 → is_inside w.shape x y ≡ true
+refined_bit : (at : WordPlace) (w : BlockState) (places ones p q c x y : ℕ) → Puts at w p q → places < 2 ^ 64 → is_inside w.shape x y ≡ true
     → plane_bit w.shape (refined_bits w places ones q) c x y ≡ cond (nat_eq c at.plane && is_in_word at.word at.stripe x y) ((plane_bit w.shape w.bits.items c x y && not (on places (own_bit x y))) || on ones (own_bit x y)) (plane_bit w.shape w.bits.items c x y)
 refined_bit at w places ones p q c x y a lim inside =
     let bits = w.bits.items in
@@ -304,7 +304,7 @@ refined_bit at w places ones p q c x y a lim inside =
     (λ e. ap (λ t. cond t (on new (own_bit x y)) (plane_bit w.shape bits c x y)) e
     ∙ sym (ap (λ t. cond t ((plane_bit w.shape bits c x y && not (on places (own_bit x y))) || on ones (own_bit x y)) (plane_bit w.shape bits c x y)) e))
 
-pub refined_magnitude : (at : WordPlace) {size : ℕ} (w : BlockState size) (places ones p q : ℕ) → Puts at w p q → places < 2 ^ 64 → IsRefined at places ones (draft_of w) → magnitude_of w.shape w.planes (refined_bits w places ones q) ≡ (refined_in at places ones (draft_of w)).magnitude
+pub refined_magnitude : (at : WordPlace) (w : BlockState) (places ones p q : ℕ) → Puts at w p q → places < 2 ^ 64 → IsRefined at places ones (draft_of w) → magnitude_of w.shape w.planes (refined_bits w places ones q) ≡ (refined_in at places ones (draft_of w)).magnitude
 refined_magnitude at w places ones p q a lim r = same_field (magnitude_of w.shape w.planes (refined_bits w places ones q)) (refined_in at places ones (draft_of w)).magnitude (λ x y. same_or (is_inside w.shape x y) (inside x y) (outside x y))
   where
     outside : (x y : ℕ) → is_inside w.shape x y ≡ false → magnitude_of w.shape w.planes (refined_bits w places ones q) x y ≡ (refined_in at places ones (draft_of w)).magnitude x y
@@ -356,10 +356,10 @@ refined_magnitude at w places ones p q a lim r = same_field (magnitude_of w.shap
             by false t p b e f = refl
 
 -- what is significant stays so
-pub refined_drawn : (at : WordPlace) {size : ℕ} (w : BlockState size) (places ones p q : ℕ) → Puts at w p q → places < 2 ^ 64 → IsRefined at places ones (draft_of w) → IsDrawn w.shape (significant_of w.shape (magnitude_of w.shape w.planes (refined_bits w places ones q))) w.significant
+pub refined_drawn : (at : WordPlace) (w : BlockState) (places ones p q : ℕ) → Puts at w p q → places < 2 ^ 64 → IsRefined at places ones (draft_of w) → IsDrawn w.shape (significant_of w.shape (magnitude_of w.shape w.planes (refined_bits w places ones q))) w.significant.now
 refined_drawn at w places ones p q a lim r =
-    subst (λ (m : Field ℕ). IsDrawn w.shape (significant_of w.shape m) w.significant) (sym (refined_magnitude at w places ones p q a lim r))
-    (subst (λ (f : Truths). IsDrawn w.shape f w.significant) (same_field (significant_in (draft_of w)) (significant_of w.shape (refined_in at places ones (draft_of w)).magnitude) same) w.known_significant)
+    subst (λ (m : Field ℕ). IsDrawn w.shape (significant_of w.shape m) w.significant.now) (sym (refined_magnitude at w places ones p q a lim r))
+    (subst (λ (f : Truths). IsDrawn w.shape f w.significant.now) (same_field (significant_in (draft_of w)) (significant_of w.shape (refined_in at places ones (draft_of w)).magnitude) same) w.known_significant)
   where
     pos : (m : ℕ) → 0 < m → nat_lt 0 m ≡ true
     pos m r = grind (arith, nat_tests)
@@ -379,35 +379,35 @@ refined_drawn at w places ones p q a lim r =
 
 -- ---- places that were coded in the significance propagation pass
 
-pub marked_words : (at : WordPlace) {size : ℕ} (w : BlockState size) (places p q : ℕ) → at.word < across w.shape → at.stripe < stripes w.shape → p ≡ word_at w.shape (at.word + 1) (at.stripe + 1) → words_of w.shape ≤ length w.visited
+pub marked_words : (at : WordPlace) (w : BlockState) (places p q : ℕ) → at.word < across w.shape → at.stripe < stripes w.shape → p ≡ word_at w.shape (at.word + 1) (at.stripe + 1) → words_of w.shape ≤ length w.visited.now
     → ((m : ℕ) → m < 64 → on places m ≡ true → (of_rows (m % 8) && is_inside w.shape (column at.word m) (row at.stripe m)) ≡ true)
-    → flagged w.shape (set w.visited p (bit_or (get_or w.visited p 0) places)) ≡ with_word (flagged w.shape w.visited) at.word at.stripe places
-marked_words at w places p q hj hi place len within = same_field (flagged w.shape (set w.visited p (bit_or (get_or w.visited p 0) places))) (with_word (flagged w.shape w.visited) at.word at.stripe places) (λ x y. same_or (is_inside w.shape x y) (inside x y) (outside x y))
+    → flagged w.shape (set w.visited.now p (bit_or (get_or w.visited.now p 0) places)) ≡ with_word (flagged w.shape w.visited.now) at.word at.stripe places
+marked_words at w places p q hj hi place len within = same_field (flagged w.shape (set w.visited.now p (bit_or (get_or w.visited.now p 0) places))) (with_word (flagged w.shape w.visited.now) at.word at.stripe places) (λ x y. same_or (is_inside w.shape x y) (inside x y) (outside x y))
   where
     or_false : (b : Bool) → (b || false) ≡ b
     or_false true = refl
     or_false false = refl
 
-    inside : (x y : ℕ) → is_inside w.shape x y ≡ true → flagged w.shape (set w.visited p (bit_or (get_or w.visited p 0) places)) x y ≡ with_word (flagged w.shape w.visited) at.word at.stripe places x y
+    inside : (x y : ℕ) → is_inside w.shape x y ≡ true → flagged w.shape (set w.visited.now p (bit_or (get_or w.visited.now p 0) places)) x y ≡ with_word (flagged w.shape w.visited.now) at.word at.stripe places x y
     inside x y i =
-        ap (λ b. b && flag_at w.shape (set w.visited p (bit_or (get_or w.visited p 0) places)) x y) i
-        ∙ flag_word w.shape w.visited at.word at.stripe p (bit_or (get_or w.visited p 0) places) x y w.sized len hj hi place i
+        ap (λ b. b && flag_at w.shape (set w.visited.now p (bit_or (get_or w.visited.now p 0) places)) x y) i
+        ∙ flag_word w.shape w.visited.now at.word at.stripe p (bit_or (get_or w.visited.now p 0) places) x y w.sized len hj hi place i
         ∙ same_or (is_in_word at.word at.stripe x y)
-        (λ word. ap (λ t. cond t (on (bit_or (get_or w.visited p 0) places) (own_bit x y)) (flag_at w.shape w.visited x y)) word ∙ on_or (get_or w.visited p 0) places (own_bit x y)
-        ∙ ap (λ b. b || on places (own_bit x y)) (ap (λ p. on (get_or w.visited p 0) (own_bit x y)) place ∙ flag_here x y word)
-        ∙ sym (ap (λ b. (b && flag_at w.shape w.visited x y) || (is_in_word at.word at.stripe x y && on places (own_bit x y))) i ∙ ap (λ t. flag_at w.shape w.visited x y || (t && on places (own_bit x y))) word))
-        (λ away. ap (λ t. cond t (on (bit_or (get_or w.visited p 0) places) (own_bit x y)) (flag_at w.shape w.visited x y)) away
-        ∙ sym (ap (λ b. (b && flag_at w.shape w.visited x y) || (is_in_word at.word at.stripe x y && on places (own_bit x y))) i ∙ ap (λ t. flag_at w.shape w.visited x y || (t && on places (own_bit x y))) away ∙ or_false (flag_at w.shape w.visited x y)))
+        (λ word. ap (λ t. cond t (on (bit_or (get_or w.visited.now p 0) places) (own_bit x y)) (flag_at w.shape w.visited.now x y)) word ∙ on_or (get_or w.visited.now p 0) places (own_bit x y)
+        ∙ ap (λ b. b || on places (own_bit x y)) (ap (λ p. on (get_or w.visited.now p 0) (own_bit x y)) place ∙ flag_here x y word)
+        ∙ sym (ap (λ b. (b && flag_at w.shape w.visited.now x y) || (is_in_word at.word at.stripe x y && on places (own_bit x y))) i ∙ ap (λ t. flag_at w.shape w.visited.now x y || (t && on places (own_bit x y))) word))
+        (λ away. ap (λ t. cond t (on (bit_or (get_or w.visited.now p 0) places) (own_bit x y)) (flag_at w.shape w.visited.now x y)) away
+        ∙ sym (ap (λ b. (b && flag_at w.shape w.visited.now x y) || (is_in_word at.word at.stripe x y && on places (own_bit x y))) i ∙ ap (λ t. flag_at w.shape w.visited.now x y || (t && on places (own_bit x y))) away ∙ or_false (flag_at w.shape w.visited.now x y)))
       where
-        flag_here : (x y : ℕ) → is_in_word at.word at.stripe x y ≡ true → on (get_or w.visited (word_at w.shape (at.word + 1) (at.stripe + 1)) 0) (own_bit x y) ≡ flag_at w.shape w.visited x y
+        flag_here : (x y : ℕ) → is_in_word at.word at.stripe x y ≡ true → on (get_or w.visited.now (word_at w.shape (at.word + 1) (at.stripe + 1)) 0) (own_bit x y) ≡ flag_at w.shape w.visited.now x y
         flag_here x y word =
             let p = and_parts (nat_eq (x / 8) at.word) (nat_eq (y / 4) at.stripe) word in
-            ap (λ u. on (get_or w.visited (word_at w.shape (u + 1) (at.stripe + 1)) 0) (own_bit x y)) (sym (equal_true (x / 8) at.word p.0)) ∙ ap (λ v. on (get_or w.visited (word_at w.shape (x / 8 + 1) (v + 1)) 0) (own_bit x y)) (sym (equal_true (y / 4) at.stripe p.1))
+            ap (λ u. on (get_or w.visited.now (word_at w.shape (u + 1) (at.stripe + 1)) 0) (own_bit x y)) (sym (equal_true (x / 8) at.word p.0)) ∙ ap (λ v. on (get_or w.visited.now (word_at w.shape (x / 8 + 1) (v + 1)) 0) (own_bit x y)) (sym (equal_true (y / 4) at.stripe p.1))
 
-    outside : (x y : ℕ) → is_inside w.shape x y ≡ false → flagged w.shape (set w.visited p (bit_or (get_or w.visited p 0) places)) x y ≡ with_word (flagged w.shape w.visited) at.word at.stripe places x y
+    outside : (x y : ℕ) → is_inside w.shape x y ≡ false → flagged w.shape (set w.visited.now p (bit_or (get_or w.visited.now p 0) places)) x y ≡ with_word (flagged w.shape w.visited.now) at.word at.stripe places x y
     outside x y o =
-        ap (λ b. b && flag_at w.shape (set w.visited p (bit_or (get_or w.visited p 0) places)) x y) o
-        ∙ sym (ap (λ b. (b && flag_at w.shape w.visited x y) || (is_in_word at.word at.stripe x y && on places (own_bit x y))) o
+        ap (λ b. b && flag_at w.shape (set w.visited.now p (bit_or (get_or w.visited.now p 0) places)) x y) o
+        ∙ sym (ap (λ b. (b && flag_at w.shape w.visited.now x y) || (is_in_word at.word at.stripe x y && on places (own_bit x y))) o
         ∙ same_or (is_in_word at.word at.stripe x y && on places (own_bit x y))
         (λ e. let both = and_parts (is_in_word at.word at.stripe x y) (on places (own_bit x y)) e in
         absurd (let b = bit_place at.word at.stripe x y both.0 in

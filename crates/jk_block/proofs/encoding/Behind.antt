@@ -14,7 +14,7 @@ use Rattle.jk_scan.proofs.Laws.{rows_between, drawn_same, on_and}
 use Rattle.jk_block.specs.declared.encoding.flags.Flags.{Flags}
 use Rattle.jk_block.specs.declared.encoding.plane.BlockPlane.{BlockPlane}
 use Rattle.jk_block.specs.declared.word_place.WordPlace.{WordPlace}
-use Rattle.jk_block.specs.encoding.Viewed.{ShowsOnes, significant_at, spread_at, IsFlagged, moment_at}
+use Rattle.jk_block.specs.encoding.Viewed.{ShowsOnes, significant_at, spread_at, IsFlagged, HasFlagRoom, moment_at}
 use Rattle.jk_block.specs.Fields.{with_word}
 use Rattle.jk_block.proofs.encoding.Coming.{mag, mag_outside}
 use Rattle.jk_block.proofs.encoding.Propagated.{one_is}
@@ -110,20 +110,21 @@ pub becoming_row : (v : BlockPlane) (pass j i k : ℕ) → becomes v pass j i k 
 becoming_row v pass j i k e = first_two (of_rows (k % 8)) (is_due v.shape (mag v) pass (column j k) (row i k)) (nat_eq (mag v (column j k) (row i k)) 1) e
 
 -- the flags behind the significance propagation pass
-pub flagged_spread : (v : BlockPlane) (at : WordPlace) (places ones : ℕ) {size : ℕ} (old new : Flags size) → at.stripe < stripes v.shape → ((m : ℕ) → m < 64 → on places m ≡ codes v.shape (mag v) 0 at.word at.stripe m) → ShowsOnes v at.word at.stripe ones
+pub flagged_spread : (v : BlockPlane) (at : WordPlace) (places ones : ℕ) (old new : Flags) → at.stripe < stripes v.shape → ((m : ℕ) → m < 64 → on places m ≡ codes v.shape (mag v) 0 at.word at.stripe m) → ShowsOnes v at.word at.stripe ones
     → IsFlagged v (moment_at v.shape 0 at.word at.stripe 0) old
-    → ((f : Field Bool) → IsDrawn v.shape f old.significant → IsDrawn v.shape (with_word f at.word at.stripe (bit_and places ones)) new.significant)
-    → ((f : Field Bool) → IsDrawn v.shape f old.visited → IsDrawn v.shape (with_word f at.word at.stripe places) new.visited)
-    → IsFlagged v (moment_at v.shape 0 at.word at.stripe 64) new
-flagged_spread v at places ones old new stripe places_are ones_are flagged known_significant coded = record {
-  known_significant = drawn_same v.shape (with_word (significant_at v (t 0)) j i (bit_and places ones)) (significant_at v (t 64)) new.significant
+    → ((f : Field Bool) → IsDrawn v.shape f old.significant.now → IsDrawn v.shape (with_word f at.word at.stripe (bit_and places ones)) new.significant.now)
+    → ((f : Field Bool) → IsDrawn v.shape f old.visited.now → IsDrawn v.shape (with_word f at.word at.stripe places) new.visited.now)
+    → HasFlagRoom v.shape new → IsFlagged v (moment_at v.shape 0 at.word at.stripe 64) new
+flagged_spread v at places ones old new stripe places_are ones_are flagged known_significant coded room = record {
+  known_significant = drawn_same v.shape (with_word (significant_at v (t 0)) j i (bit_and places ones)) (significant_at v (t 64)) new.significant.now
       (λ x y. sym (taken_all (λ n. significant_at v (t n)) (becomes v 0 j i) j i (bit_and places ones) (λ n x y. significant_bit v.shape (mag v) 0 j i n (mag_outside v) stripe x y)
       (becoming_row v 0 j i) (becoming v 0 j i places ones refl places_are ones_are) x y))
       (known_significant (significant_at v (t 0)) flagged.known_significant);
-  coded = drawn_same v.shape (with_word (spread_at v (t 0)) j i places) (spread_at v (t 64)) new.visited
+  coded = drawn_same v.shape (with_word (spread_at v (t 0)) j i places) (spread_at v (t 64)) new.visited.now
       (λ x y. sym (taken_all (λ n. spread_at v (t n)) (λ m. codes v.shape (mag v) 0 j i m && true) j i places (λ n x y. spread_bit v.shape (mag v) 0 j i n stripe x y)
       (λ m e. first_two (of_rows (m % 8)) (is_due v.shape (mag v) 0 (column j m) (row i m)) true e) (λ m l. places_are m l ∙ same (codes v.shape (mag v) 0 j i m)) x y))
       (coded (spread_at v (t 0)) flagged.coded);
+  room = room;
 }
   where
     j : ℕ
@@ -151,16 +152,17 @@ spread_kept v at stripe x y (suc n) =
     kept f c h = grind (arith, nat_tests)
 
 -- the flags behind the cleanup pass
-pub flagged_left : (v : BlockPlane) (at : WordPlace) (places ones : ℕ) {size : ℕ} (old new : Flags size) → at.stripe < stripes v.shape → ((m : ℕ) → m < 64 → on places m ≡ codes v.shape (mag v) 2 at.word at.stripe m) → ShowsOnes v at.word at.stripe ones
+pub flagged_left : (v : BlockPlane) (at : WordPlace) (places ones : ℕ) (old new : Flags) → at.stripe < stripes v.shape → ((m : ℕ) → m < 64 → on places m ≡ codes v.shape (mag v) 2 at.word at.stripe m) → ShowsOnes v at.word at.stripe ones
     → IsFlagged v (moment_at v.shape 2 at.word at.stripe 0) old
-    → ((f : Field Bool) → IsDrawn v.shape f old.significant → IsDrawn v.shape (with_word f at.word at.stripe (bit_and places ones)) new.significant) → new.visited ≡ old.visited
-    → IsFlagged v (moment_at v.shape 2 at.word at.stripe 64) new
-flagged_left v at places ones old new stripe places_are ones_are flagged known_significant visited = record {
-  known_significant = drawn_same v.shape (with_word (significant_at v (t 0)) j i (bit_and places ones)) (significant_at v (t 64)) new.significant
+    → ((f : Field Bool) → IsDrawn v.shape f old.significant.now → IsDrawn v.shape (with_word f at.word at.stripe (bit_and places ones)) new.significant.now) → new.visited.now ≡ old.visited.now
+    → HasFlagRoom v.shape new → IsFlagged v (moment_at v.shape 2 at.word at.stripe 64) new
+flagged_left v at places ones old new stripe places_are ones_are flagged known_significant visited room = record {
+  known_significant = drawn_same v.shape (with_word (significant_at v (t 0)) j i (bit_and places ones)) (significant_at v (t 64)) new.significant.now
       (λ x y. sym (taken_all (λ n. significant_at v (t n)) (becomes v 2 j i) j i (bit_and places ones) (λ n x y. significant_bit v.shape (mag v) 2 j i n (mag_outside v) stripe x y)
       (becoming_row v 2 j i) (becoming v 2 j i places ones refl places_are ones_are) x y))
       (known_significant (significant_at v (t 0)) flagged.known_significant);
-  coded = drawn_same v.shape (spread_at v (t 0)) (spread_at v (t 64)) new.visited (λ x y. sym (spread_kept v at stripe x y 64)) (subst (λ ws. IsDrawn v.shape (spread_at v (t 0)) ws) (sym visited) flagged.coded);
+  coded = drawn_same v.shape (spread_at v (t 0)) (spread_at v (t 64)) new.visited.now (λ x y. sym (spread_kept v at stripe x y 64)) (subst (λ ws. IsDrawn v.shape (spread_at v (t 0)) ws) (sym visited) flagged.coded);
+  room = room;
 }
   where
     j : ℕ

@@ -27,10 +27,11 @@ pub mag_outside : (v : BlockPlane) (x y : ℕ) → is_inside v.shape x y ≡ fal
 mag_outside v x y = plane_outside v.shape v.plane (value_in v.shape v.values.now) x y
 
 -- the words show what is so at another moment at which the same is so
-flagged_at : (v : BlockPlane) (t u : ℕ) {size : ℕ} (flags : Flags size) → ((x y : ℕ) → significant_at v u x y ≡ significant_at v t x y) → ((x y : ℕ) → spread_at v u x y ≡ spread_at v t x y) → IsFlagged v t flags → IsFlagged v u flags
+flagged_at : (v : BlockPlane) (t u : ℕ) (flags : Flags) → ((x y : ℕ) → significant_at v u x y ≡ significant_at v t x y) → ((x y : ℕ) → spread_at v u x y ≡ spread_at v t x y) → IsFlagged v t flags → IsFlagged v u flags
 flagged_at v t u flags e g h = record {
-  known_significant = drawn_same v.shape (significant_at v t) (significant_at v u) flags.significant (λ x y. sym (e x y)) h.known_significant;
-  coded = drawn_same v.shape (spread_at v t) (spread_at v u) flags.visited (λ x y. sym (g x y)) h.coded;
+  known_significant = drawn_same v.shape (significant_at v t) (significant_at v u) flags.significant.now (λ x y. sym (e x y)) h.known_significant;
+  coded = drawn_same v.shape (spread_at v t) (spread_at v u) flags.visited.now (λ x y. sym (g x y)) h.coded;
+  room = h.room;
 }
 
 -- nothing changes at a bit: no place is coded there, or a 0 is, but not in the significance
@@ -47,7 +48,7 @@ pub record Same (v : BlockPlane) (t u : ℕ) : Type 0 where
 pub same_here : (v : BlockPlane) (t : ℕ) → Same v t t
 same_here v t = record { known_significant = λ x y. refl; coded = λ x y. refl }
 
-pub same_flags : (v : BlockPlane) (t u : ℕ) {size : ℕ} (flags : Flags size) → Same v t u → IsFlagged v t flags → IsFlagged v u flags
+pub same_flags : (v : BlockPlane) (t u : ℕ) (flags : Flags) → Same v t u → IsFlagged v t flags → IsFlagged v u flags
 same_flags v t u flags s h = flagged_at v t u flags s.known_significant s.coded h
 
 pub same_significant : (v : BlockPlane) (t u : ℕ) → Same v t u → significant_at v u ≡ significant_at v t

@@ -54,7 +54,7 @@ no_run v j i c off = by (is_run v.shape (mag v) 2 j i c) refl
     by true e = let g : true ≡ false = sym (run_codes v j i c e) ∙ off in absurd cc
     by false e = refl
 
-pub emptied : (v : BlockPlane) (at : WordPlace) {size : ℕ} (flags : Flags size) (list : Decided) (left : ℕ) → at.stripe < stripes v.shape → IsFlagged v (moment_at v.shape 2 at.word at.stripe 0) flags
+pub emptied : (v : BlockPlane) (at : WordPlace) (flags : Flags) (list : Decided) (left : ℕ) → at.stripe < stripes v.shape → IsFlagged v (moment_at v.shape 2 at.word at.stripe 0) flags
     → ((m : ℕ) → m < 64 → on left m ≡ (of_rows (m % 8) && (is_inside v.shape (column at.word m) (row at.stripe m) && (not (significant_at v (moment_at v.shape 2 at.word at.stripe 0) (column at.word m) (row at.stripe m)) && not (spread_at v (moment_at v.shape 2 at.word at.stripe 0) (column at.word m) (row at.stripe m))))))
     → left ≡ 0 → Told v 2 at 64 list list × IsFlagged v (moment_at v.shape 2 at.word at.stripe 64) flags
 emptied v at flags list left stripe flagged left_is empty = (

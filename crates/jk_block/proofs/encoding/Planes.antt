@@ -16,7 +16,7 @@ use Rattle.jk_block.specs.BlockWritten.{greatest}
 use Rattle.jk_block.specs.Meaning.{plane_at, value_in}
 use Rattle.jk_block.specs.declared.encoding.flags.Flags.{Flags}
 use Rattle.jk_block.specs.declared.encoding.plane.BlockPlane.{BlockPlane}
-use Rattle.jk_block.specs.encoding.Viewed.{significant_at, spread_at, IsFlagged, IsSignificantUpto}
+use Rattle.jk_block.specs.encoding.Viewed.{significant_at, spread_at, IsFlagged, IsSignificantUpto, HasFlagRoom}
 use Rattle.jk_block.proofs.encoding.Coming.{mag, mag_outside}
 use Rattle.jk_block.proofs.encoding.Timing.{by_test}
 use Rattle.jk_block.proofs.Whole.{plane_inside, plane_outside, lower_plane}
@@ -79,12 +79,13 @@ abbrev IsDark : BlockShape → List ℕ → Type 0
 IsDark s words = (f : Field Bool) → ((x y : ℕ) → f x y ≡ false) → IsDrawn s f words
 
 -- a plane begins, where what is significant is what was before, and nothing is coded
-begun_at : (v : BlockPlane) (t : ℕ) {size : ℕ} (flags flags' : Flags size) → IsSignificantUpto v.shape (v.plane + 1) (value_of v) flags → flags'.significant ≡ flags.significant → IsDark v.shape flags'.visited
+begun_at : (v : BlockPlane) (t : ℕ) (flags flags' : Flags) → IsSignificantUpto v.shape (v.plane + 1) (value_of v) flags → flags'.significant.now ≡ flags.significant.now → HasFlagRoom v.shape flags' → IsDark v.shape flags'.visited.now
     → ((x y : ℕ) → significant_at v t x y ≡ old (mag v) x y) → ((x y : ℕ) → spread_at v t x y ≡ false) → IsFlagged v t flags'
-begun_at v t flags flags' h e k known_significant none = record {
+begun_at v t flags flags' h e room k known_significant none = record {
   known_significant = subst (λ ws. IsDrawn v.shape (significant_at v t) ws) (sym e)
-      (drawn_same v.shape (λ x y. nat_lt 0 ((plane_at v.shape (v.plane + 1) (value_of v)).magnitude x y)) (significant_at v t) flags.significant (λ x y. sym (known_significant x y ∙ old_above v x y)) h.known_significant);
+      (drawn_same v.shape (λ x y. nat_lt 0 ((plane_at v.shape (v.plane + 1) (value_of v)).magnitude x y)) (significant_at v t) flags.significant.now (λ x y. sym (known_significant x y ∙ old_above v x y)) h.known_significant);
   coded = k (spread_at v t) none;
+  room = room;
 }
 
 and_none : (a b : Bool) → (a && (b && false)) ≡ false
@@ -92,9 +93,9 @@ and_none true true = refl
 and_none true false = refl
 and_none false b = refl
 
-pub begun_plane : (v : BlockPlane) {size : ℕ} (flags flags' : Flags size) → IsSignificantUpto v.shape (v.plane + 1) (value_of v) flags → flags'.significant ≡ flags.significant → IsDark v.shape flags'.visited → IsFlagged v (0 * visits v.shape) flags'
-begun_plane v flags flags' h e k =
-    begun_at v (0 * visits v.shape) flags flags' h e k
+pub begun_plane : (v : BlockPlane) (flags flags' : Flags) → IsSignificantUpto v.shape (v.plane + 1) (value_of v) flags → flags'.significant.now ≡ flags.significant.now → HasFlagRoom v.shape flags' → IsDark v.shape flags'.visited.now → IsFlagged v (0 * visits v.shape) flags'
+begun_plane v flags flags' h e room k =
+    begun_at v (0 * visits v.shape) flags flags' h e room k
     (λ x y. significant_is v.shape (mag v) (0 * visits v.shape) x y ∙ early (old (mag v) x y) (nat_eq (mag v x y) 1) (moment v.shape (mag v) x y) (0 * visits v.shape) (omega arith))
     (λ x y. ap (λ b. is_inside v.shape x y && (spread v.shape (mag v) x y && b)) (let z : nat_lt (number v.shape.width x y) (0 * visits v.shape) ≡ false = never (number v.shape.width x y) (0 * visits v.shape) (omega arith) in z) ∙ and_none (is_inside v.shape x y) (spread v.shape (mag v) x y))
   where
@@ -105,10 +106,10 @@ begun_plane v flags flags' h e k =
     early o e m t z = grind (arith, nat_tests)
 
 -- the highest plane has a cleanup pass alone
-pub begun_top : (v : BlockPlane) {size : ℕ} (flags flags' : Flags size) → IsSignificantUpto v.shape (v.plane + 1) (value_of v) flags → flags'.significant ≡ flags.significant → IsDark v.shape flags'.visited
+pub begun_top : (v : BlockPlane) (flags flags' : Flags) → IsSignificantUpto v.shape (v.plane + 1) (value_of v) flags → flags'.significant.now ≡ flags.significant.now → HasFlagRoom v.shape flags' → IsDark v.shape flags'.visited.now
     → ((x y : ℕ) → old (mag v) x y ≡ false) → IsFlagged v (2 * visits v.shape) flags'
-begun_top v flags flags' h e k top =
-    begun_at v (2 * visits v.shape) flags flags' h e k
+begun_top v flags flags' h e room k top =
+    begun_at v (2 * visits v.shape) flags flags' h e room k
     (λ x y. significant_is v.shape (mag v) (2 * visits v.shape) x y
     ∙ cases_of v.shape (mag v) x y
     (λ w. absurd (let o = w.old_is in let c : true ≡ false = sym o ∙ top x y in cc))
@@ -124,9 +125,10 @@ begun_top v flags flags' h e k top =
     late o e m t h = grind (arith, nat_tests)
 
 -- a plane ends
-pub ended_plane : (v : BlockPlane) {size : ℕ} (flags : Flags size) → IsFlagged v (3 * visits v.shape) flags → IsSignificantUpto v.shape v.plane (value_of v) flags
+pub ended_plane : (v : BlockPlane) (flags : Flags) → IsFlagged v (3 * visits v.shape) flags → IsSignificantUpto v.shape v.plane (value_of v) flags
 ended_plane v flags h = record {
-  known_significant = drawn_same v.shape (significant_at v (3 * visits v.shape)) (λ x y. nat_lt 0 (mag v x y)) flags.significant all h.known_significant;
+  known_significant = drawn_same v.shape (significant_at v (3 * visits v.shape)) (λ x y. nat_lt 0 (mag v x y)) flags.significant.now all h.known_significant;
+  room = h.room;
 }
   where
     at_coded : (m q t : ℕ) → q < t → (nat_le 2 m || (nat_eq m 1 && nat_lt q t)) ≡ nat_lt 0 m
@@ -172,9 +174,10 @@ none_refined s planes q size words h e =
         (λ i. zero_not ((plane_at s (planes + 1) q).magnitude x y) (plane_outside s (planes + 1) q x y i))
 
 -- nothing is significant at first
-pub significant_none : (s : BlockShape) (planes : ℕ) (q : Field ℤ) {size : ℕ} (flags : Flags size) → ((x y : ℕ) → is_inside s x y ≡ true → unsigned_abs (q x y) < 2 ^ planes) → flags.significant ≡ replicate size 0 → IsSignificantUpto s planes q flags
-significant_none s planes q {size} flags h e = record {
+pub significant_none : (s : BlockShape) (planes : ℕ) (q : Field ℤ) (size : ℕ) (flags : Flags) → ((x y : ℕ) → is_inside s x y ≡ true → unsigned_abs (q x y) < 2 ^ planes) → flags.significant.now ≡ replicate size 0 → HasFlagRoom s flags → IsSignificantUpto s planes q flags
+significant_none s planes q size flags h e room = record {
   known_significant = subst (λ ws. IsDrawn s (λ x y. nat_lt 0 ((plane_at s planes q).magnitude x y)) ws) (sym e) (drawn_none s (λ x y. nat_lt 0 ((plane_at s planes q).magnitude x y)) size dark);
+  room = room;
 }
   where
     zero_not : (m : ℕ) → m ≡ 0 → nat_lt 0 m ≡ false

@@ -157,12 +157,12 @@ propagated_next v at old list around w st p q =
 -- a word in which the pass has no member as it comes to it
 pub propagated_empty : (v : BlockPlane) (at : WordPlace) (list : Decided) (around : Around) (w : ℕ) → at.stripe < stripes v.shape → IsAround (bordered (seen_at v (moment_at v.shape 0 at.word at.stripe 0) at.stripe)) at.word at.stripe around
     → Shows of_rows (is_member (bordered (is_inside v.shape)) (bordered (seen_at v (moment_at v.shape 0 at.word at.stripe 0) at.stripe))) (at.word + 1) (at.stripe + 1) w → w ≡ 0
-    → Told v 0 at 64 list list × ((size : ℕ) (flags : Flags size) → IsFlagged v (moment_at v.shape 0 at.word at.stripe 0) flags → IsFlagged v (moment_at v.shape 0 at.word at.stripe 64) flags)
+    → Told v 0 at 64 list list × ((flags : Flags) → IsFlagged v (moment_at v.shape 0 at.word at.stripe 0) flags → IsFlagged v (moment_at v.shape 0 at.word at.stripe 64) flags)
 propagated_empty v at list around w stripe shown members empty =
     let st : Propagated v at list list around w = record { n = 0; coming = told_none v 0 at list stripe; shown = shown; awaits = awaits_all v.shape (significant_at v (moment_at v.shape 0 at.word at.stripe 0)) at.word at.stripe w members } in
     let end = propagated_to v at list list around w st 64 (omega arith) (omega arith) (λ m l. ap (λ w. on w m) empty ∙ on_zero m) in (
       end.0,
-      λ size flags h. same_flags v (moment_at v.shape 0 at.word at.stripe 0) (moment_at v.shape 0 at.word at.stripe 64) flags
+      λ flags h. same_flags v (moment_at v.shape 0 at.word at.stripe 0) (moment_at v.shape 0 at.word at.stripe 64) flags
           (idle_to v 0 at.word at.stripe 0 64 stripe (omega arith) (λ m a b. idle_none v 0 at.word at.stripe m (end.2 m a b))) h,
     )
 

@@ -73,7 +73,7 @@ idle v j i m = record {
 pub still_significant : (v : BlockPlane) (j i n m : ℕ) → i < stripes v.shape → n ≤ m → Same v (moment_at v.shape 1 j i n) (moment_at v.shape 1 j i m)
 still_significant v j i n m stripe le = idle_to v 1 j i n m stripe le (λ l a b. idle v j i l)
 
-pub still_flagged : (v : BlockPlane) (at : WordPlace) {size : ℕ} (flags : Flags size) → at.stripe < stripes v.shape → IsFlagged v (moment_at v.shape 1 at.word at.stripe 0) flags → IsFlagged v (moment_at v.shape 1 at.word at.stripe 64) flags
+pub still_flagged : (v : BlockPlane) (at : WordPlace) (flags : Flags) → at.stripe < stripes v.shape → IsFlagged v (moment_at v.shape 1 at.word at.stripe 0) flags → IsFlagged v (moment_at v.shape 1 at.word at.stripe 64) flags
 still_flagged v at flags stripe h = same_flags v (moment_at v.shape 1 at.word at.stripe 0) (moment_at v.shape 1 at.word at.stripe 64) flags (still_significant v at.word at.stripe 0 64 stripe (omega arith)) h
 
 pub no_run : (s : BlockShape) (a : Field ℕ) (j i c : ℕ) → is_run s a 1 j i c ≡ false

@@ -20,12 +20,12 @@ pub record Draft : Type 0 where
   pub visited : Field Bool
 
 -- what a sketch shows
-abbrev pub draft_of : {size : ℕ} → BlockState size → Draft
+abbrev pub draft_of : BlockState → Draft
 draft_of k = record {
   shape = k.shape;
   magnitude = magnitude_of k.shape k.planes k.bits.items;
-  negative = flagged k.shape k.negative;
-  visited = flagged k.shape k.visited;
+  negative = flagged k.shape k.negative.now;
+  visited = flagged k.shape k.visited.now;
 }
 
 -- with the state of the decoder

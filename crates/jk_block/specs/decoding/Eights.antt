@@ -9,25 +9,25 @@ use Rattle.jk_block.specs.Fields.{words_of, plane_bit, number_from}
 
 -- Bit i of byte c is bit k of that byte in the word of plane first + i at a place, or 0 where the
 -- sketch has no such plane.
-abbrev pub HasBits : {size : ℕ} (block_state : BlockState size) (at k first bytes : ℕ) → Type 0
+abbrev pub HasBits : (block_state : BlockState) (at k first bytes : ℕ) → Type 0
 HasBits block_state at k first bytes =
     (c i : ℕ) → c < 8 → i < 8
     → on bytes (8 * c + i) ≡ (nat_lt (first + i) block_state.planes
     && on (get_or block_state.bits.items ((first + i) * words_of block_state.shape + at) 0) (8 * c + k))
 
 -- Bit i of byte c is bit first + i of the magnitude in column 8j + c of row y.
-abbrev pub HasByte : {size : ℕ} (block_state : BlockState size) (first j y bytes : ℕ) → Type 0
+abbrev pub HasByte : (block_state : BlockState) (first j y bytes : ℕ) → Type 0
 HasByte block_state first j y bytes =
     (c i : ℕ) → c < 8 → i < 8
     → on bytes (8 * c + i) ≡ (nat_lt (first + i) block_state.planes
     && plane_bit block_state.shape block_state.bits.items (first + i) (8 * j + c) y)
 
 -- The numbers have the coefficients in columns 8j to 8j + 7 of row y.
-pub record IsEight {size : ℕ} (block_state : BlockState size) (j y : ℕ) (eight : Eight) : Type 0 where
+pub record IsEight (block_state : BlockState) (j y : ℕ) (eight : Eight) : Type 0 where
   pub low : HasByte block_state 0 j y eight.low
   pub middle : HasByte block_state 8 j y eight.middle
   pub high : HasByte block_state 16 j y eight.high
-  pub negative : (c : ℕ) → c < 8 → on eight.negative (8 * c) ≡ flag_at block_state.shape block_state.negative (8 * j + c) y
+  pub negative : (c : ℕ) → c < 8 → on eight.negative (8 * c) ≡ flag_at block_state.shape block_state.negative.now (8 * j + c) y
 
 -- bit b of the magnitude c of eight
 abbrev pub eight_bit : Eight → (c b : ℕ) → Bool

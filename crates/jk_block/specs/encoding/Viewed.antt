@@ -1,5 +1,5 @@
 -- What words show of a block at a bit-plane while its decisions are listed.
-use Rattle.std.specs.Prelude.{◌≡◌, ◌<◌, ℕ, ◌+◌, ◌-◌, ◌*◌, ◌/◌, ◌%◌, Bool, true, false, ◌&&◌, nat_eq, nat_lt}
+use Rattle.std.specs.Prelude.{◌≡◌, ◌<◌, ◌≤◌, ℕ, length, ◌+◌, ◌-◌, ◌*◌, ◌/◌, ◌%◌, Bool, true, false, ◌&&◌, nat_eq, nat_lt}
 use Rattle.std.specs.Prelude.{nat_le, [], ◌∷◌, ℤ, if◌then◌else◌}
 use Rattle.jk_scan.specs.declared.shape.BlockShape.{BlockShape}
 use Rattle.jk_scan.specs.Contexts.{run_length, uniform}
@@ -12,6 +12,7 @@ use Rattle.jk_scan.specs.WordPlaces.{column, row}
 use Rattle.jk_scan.specs.Flags.{IsDrawn}
 use Rattle.jk_mqenc.specs.Encoded.{decision_of}
 use Rattle.jk_block.specs.Meaning.{plane_at, value_in}
+use Rattle.jk_block.specs.Fields.{words_of}
 use Rattle.jk_block.specs.encoding.Slices.{negative_of}
 use Rattle.jk_block.specs.declared.encoding.plane.BlockPlane.{BlockPlane}
 use Rattle.jk_block.specs.declared.encoding.flags.Flags.{Flags}
@@ -42,14 +43,21 @@ abbrev pub spread_at : BlockPlane → ℕ → Field Bool
 spread_at v t x y =
     is_inside v.shape x y && (spread v.shape (seen v).magnitude x y && nat_lt (number v.shape.width x y) t)
 
+-- The words are as many as show the block, or more.
+pub record HasFlagRoom (s : BlockShape) (flags : Flags) : Type 0 where
+  pub significant : words_of s ≤ length flags.significant.now
+  pub visited : words_of s ≤ length flags.visited.now
+
 -- The words show what is so at a moment.
-pub record IsFlagged (v : BlockPlane) (t : ℕ) {size : ℕ} (flags : Flags size) : Type 0 where
-  pub known_significant : IsDrawn v.shape (significant_at v t) flags.significant
-  pub coded : IsDrawn v.shape (spread_at v t) flags.visited
+pub record IsFlagged (v : BlockPlane) (t : ℕ) (flags : Flags) : Type 0 where
+  pub known_significant : IsDrawn v.shape (significant_at v t) flags.significant.now
+  pub coded : IsDrawn v.shape (spread_at v t) flags.visited.now
+  pub room : HasFlagRoom v.shape flags
 
 -- Between planes the words show what has a bit in plane b or above it.
-pub record IsSignificantUpto (s : BlockShape) (b : ℕ) (q : Field ℤ) {size : ℕ} (flags : Flags size) : Type 0 where
-  pub known_significant : IsDrawn s (λ x y. nat_lt 0 ((plane_at s b q).magnitude x y)) flags.significant
+pub record IsSignificantUpto (s : BlockShape) (b : ℕ) (q : Field ℤ) (flags : Flags) : Type 0 where
+  pub known_significant : IsDrawn s (λ x y. nat_lt 0 ((plane_at s b q).magnitude x y)) flags.significant.now
+  pub room : HasFlagRoom s flags
 
 -- The byte spells the decision of the bit of a place that isn't significant at a moment, or that
 -- of its sign.

@@ -46,7 +46,7 @@ fn row_bits(word: u64, k: u32) -> u64
 /// A byte of the magnitudes of a row's eight places: their bits in eight planes from the first one
 /// on.
 #[inline(always)]
-fn row_bytes<const N: usize>(block_state: &BlockState<N>, at: usize, k: u32, first: u32) -> u64
+fn row_bytes(block_state: &BlockState, at: usize, k: u32, first: u32) -> u64
     requires at { at < words_of block_state.now.shape }
     requires k { k < 8 }
     requires first { first ≤ 16 }
@@ -65,7 +65,7 @@ fn row_bytes<const N: usize>(block_state: &BlockState<N>, at: usize, k: u32, fir
 
 /// The coefficients of a word of eight places in a row.
 #[inline(always)]
-fn eight_at<const N: usize>(block_state: &BlockState<N>, word: usize, y: usize) -> Eight
+fn eight_at(block_state: &BlockState, word: usize, y: usize) -> Eight
     requires word { word < across block_state.now.shape }
     requires y { y < block_state.now.shape.height }
     ensures { IsEight block_state.now word y result }
@@ -148,7 +148,8 @@ fn append_eight(values: &mut Vec<i32>, eight: Eight, count: usize)
 }
 
 /// Appends the coefficients of a row, for which there is room.
-fn append_row<const N: usize>(values: &mut Vec<i32>, block_state: &BlockState<N>, y: usize)
+#[inline(always)]
+fn append_row(values: &mut Vec<i32>, block_state: &BlockState, y: usize)
     requires row { y < block_state.now.shape.height }
     requires room { vec_len values.old + block_state.now.shape.width ≤ vec_capacity values.old }
     ensures items { values.new.items ≡ values.old.items
@@ -165,7 +166,8 @@ fn append_row<const N: usize>(values: &mut Vec<i32>, block_state: &BlockState<N>
 }
 
 /// The coefficients of a sketch.
-pub fn values<const N: usize>(alloc: Global, block_state: &BlockState<N>) -> Result<Vec<i32>, Fault>
+#[inline(always)]
+pub fn values(alloc: Global, block_state: &BlockState) -> Result<Vec<i32>, Fault>
     ensures values { (c : State) → IfOk result
         (λ v. v.items ≡ values_of block_state.now.shape (coefficients (progress (draft_of block_state.now) c))) }
     ensures memory { IfErr result IsMemory }

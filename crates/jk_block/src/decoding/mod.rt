@@ -5,7 +5,7 @@
 //! block.
 
 ghost use Rattle.std.specs.Prelude.{◌≡◌, ℕ, ℤ, List, true, ◌+◌, ◌-◌, ◌*◌, ◌%◌, ◌^◌, ◌<◌};
-ghost use Rattle.std.specs.Prelude.{◌≤◌, All, IfOk, MatchResult, unsigned_abs};
+ghost use Rattle.std.specs.Prelude.{◌≤◌, length, All, IfOk, MatchResult, unsigned_abs};
 ghost use Rattle.jk_math.specs.Answer.{Answers};
 ghost use Rattle.jk_math.specs.Memory.{IsMemory};
 ghost use Rattle.jk_model.specs.Decisions.{State};
@@ -13,11 +13,13 @@ ghost use Rattle.jk_model.specs.CodingPasses.{begun_by};
 ghost use Rattle.jk_mqdec.specs.Standing.{Stands};
 ghost use Rattle.jk_scan.specs.Flags.{IsSized};
 ghost use Rattle.jk_scan.specs.Neighbours.{Field};
+ghost use Rattle.jk_block.specs.Ages.{HasRoom, IsUnaged};
 ghost use Rattle.jk_block.specs.Fields.{AreSameWords, words_of};
 ghost use Rattle.jk_block.specs.Meaning.{IsBlockMeaning, plane_of, kind_of, value_in, values_of};
 ghost use Rattle.jk_block.specs.Reading.{times, blank, begun, pass_at, block_at};
 ghost use Rattle.jk_block.specs.Steps.{number_of};
 ghost use Rattle.jk_block.specs.decoding.BlockStates.{TakesStep, IsFresh, draft_of, progress};
+ghost use Rattle.jk_block.specs.decoding.Laid.{MarkNothing};
 
 mod block_state;
 mod coefficients;
@@ -27,9 +29,9 @@ mod sight;
 mod symbols;
 mod words;
 
-use crate::ages::{Ages, words_of};
+use crate::ages::{Ages, unmarked, words_of};
 use crate::word_place::{Pass, pass_of};
-use block_state::{BlockState, no_bits};
+use block_state::{BlockState, BlockWords, no_bits};
 use coefficients::values;
 use jk_math::{Fault, Orientation, Style};
 use jk_model::first_steps;
@@ -56,7 +58,7 @@ pub struct Block {
 
 /// Begins a pass: with significance propagation a plane begins.
 #[inline(always)]
-fn begin<const N: usize>(block_state: &mut BlockState<N>, pass: Pass)
+fn begin(block_state: &mut BlockState, pass: Pass)
     ensures shape { block_state.new.shape ≡ block_state.old.shape }
     ensures planes { block_state.new.planes ≡ block_state.old.planes }
     ensures begun { (c : State) → progress (draft_of block_state.new) c
@@ -83,32 +85,34 @@ fn begin_contexts(decoder: &mut PassDecoder, style: Style)
 
 /// Notes what is significant as the n-th pass begins, if with it a plane begins.
 #[inline(always)]
-fn note<const N: usize>(ages: &mut Ages<N>, shape: BlockShape, significant: &[u64; N], n: usize)
+fn note(ages: &mut Ages, block_state: &BlockState, n: usize)
     requires few { n < 100 }
-    requires sized { IsSized shape }
-    requires room { words_of shape ≤ N }
+    requires room { HasRoom block_state.now.shape ages.old }
     ensures refined { kind_of n ≡ 0 → ages.new.refined ≡ ages.old.older }
-    ensures older { kind_of n ≡ 0 → AreSameWords shape significant.now ages.new.older }
+    ensures older { kind_of n ≡ 0
+        → AreSameWords block_state.now.shape block_state.now.significant.now ages.new.older }
     ensures kept { (kind_of n ≡ 0 → ⊥) → ages.new ≡ ages.old }
+    ensures room { HasRoom block_state.now.shape ages.new }
 {
     match pass_of(n) {
-        Pass::Propagation => ages.note(shape, significant),
+        Pass::Propagation => ages.note(block_state.shape, &block_state.significant),
         _ => {}
     }
 }
 
 /// Reads the n-th pass of a block.
 #[inline(always)]
-fn read_pass<const N: usize>(
-    block_state: &mut BlockState<N>,
+fn read_pass(
+    block_state: &mut BlockState,
     decoder: &mut PassDecoder,
-    refined: &[u64; N],
+    refined: &[u64],
     planes: u32,
     n: usize,
 ) -> Result<(), Fault>
     requires planes { planes ≡ block_state.old.planes }
     requires few { planes ≤ 23 }
     requires n { n < 3 * planes - 2 }
+    requires room { words_of block_state.old.shape ≤ length refined.now }
     requires fresh { kind_of n ≡ 1 → IsFresh (plane_of planes n) refined.now (draft_of block_state.old) }
     ensures shape { block_state.new.shape ≡ block_state.old.shape }
     ensures planes { block_state.new.planes ≡ block_state.old.planes }
@@ -126,15 +130,17 @@ fn read_pass<const N: usize>(
 
 /// Reads the passes of a block.
 #[inline(always)]
-fn read_passes<const N: usize>(
-    block_state: &mut BlockState<N>,
+fn read_passes(
+    block_state: &mut BlockState,
     decoder: &mut PassDecoder,
+    ages: &mut Ages,
     planes: u32,
     passes: usize,
 ) -> Result<(), Fault>
     requires planes { planes ≡ block_state.old.planes }
     requires few { planes ≤ 23 }
     requires passes { passes ≤ 3 * planes - 2 }
+    requires unaged { IsUnaged block_state.old.shape ages.old }
     requires blank { progress (draft_of block_state.old) blank.coder ≡ blank }
     requires stands { Stands decoder.old blank.coder }
     ensures shape { block_state.new.shape ≡ block_state.old.shape }
@@ -143,12 +149,45 @@ fn read_passes<const N: usize>(
     ensures takes { TakesStep (times passes (pass_at decoder.old.bytes block_state.old.shape planes))
         (draft_of block_state.old) (draft_of block_state.new) decoder.old decoder.new result }
 {
-    let mut ages = Ages::<N>::none();
     for n in 0..passes {
-        note(&mut ages, block_state.shape, &block_state.significant, n);
+        note(ages, block_state, n);
         read_pass(block_state, decoder, ages.refined(), planes, n)?;
     }
     Ok(())
+}
+
+/// Reads the coefficients of a block from its segment, in words that mark no place. The passes stand
+/// here once for blocks of every size; the state lies in locals, whose slices no write can change.
+#[inline(never)]
+fn read_values(
+    alloc: Global,
+    segment: &[u8],
+    shape: BlockShape,
+    planes: u32,
+    passes: usize,
+    words: BlockWords,
+) -> Result<Vec<i32>, Fault>
+    requires sized { IsSized shape }
+    requires few { planes ≤ 23 }
+    requires passes { passes ≤ 3 * planes - 2 }
+    requires unmarked { MarkNothing shape words }
+    ensures exact { Answers (λ v. v.items) result (block_at shape planes passes segment.now) }
+    ensures small { IfOk result (λ v. All (λ x. unsigned_abs x < 2 ^ planes) v.items) }
+{
+    let bits = no_bits(alloc, shape, planes)?;
+    let BlockWords {
+        significant,
+        negative,
+        visited,
+        even,
+        odd,
+    } = words;
+    let mut block_state = BlockState::new(shape, planes, bits, significant, negative, visited);
+    let mut ages = Ages::new(even, odd);
+    let mut contexts = first_steps();
+    let mut decoder = PassDecoder::new(segment, &mut contexts);
+    read_passes(&mut block_state, &mut decoder, &mut ages, planes, passes)?;
+    values(alloc, &block_state)
 }
 
 /// Reads a code-block as [`decode`] does, in arrays of so many words.
@@ -182,16 +221,25 @@ fn decode_among<const N: usize>(
     if passes > (3 * planes as usize).saturating_sub(2) {
         return Err(Fault::TooManyPasses);
     }
-    let mut block_state = BlockState::<N>::new(shape, planes, no_bits(alloc, shape, planes)?);
-    let mut contexts = first_steps();
-    let mut decoder = PassDecoder::new(segment, &mut contexts);
-    read_passes(&mut block_state, &mut decoder, planes, passes)?;
+    let mut significant = unmarked::<N>();
+    let mut negative = unmarked::<N>();
+    let mut visited = unmarked::<N>();
+    let mut even = unmarked::<N>();
+    let mut odd = unmarked::<N>();
+    let words = BlockWords {
+        significant: &mut significant,
+        negative: &mut negative,
+        visited: &mut visited,
+        even: &mut even,
+        odd: &mut odd,
+    };
+    let values = read_values(alloc, segment, shape, planes, passes, words)?;
     Ok(Block {
         width: shape.width,
         height: shape.height,
         orientation: shape.orientation,
         style: shape.style,
-        values: values(alloc, &block_state)?,
+        values,
     })
 }
 

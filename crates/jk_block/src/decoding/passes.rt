@@ -1,8 +1,9 @@
 //! Stripes, and whole passes.
 
-ghost use Rattle.std.specs.Prelude.{◌≡◌, ◌<◌, ◌≤◌};
+ghost use Rattle.std.specs.Prelude.{◌≡◌, ◌<◌, ◌≤◌, length};
 ghost use Rattle.jk_scan.specs.Moments.{stripes};
 ghost use Rattle.jk_block.specs.Reading.{stripe_at, plane_pass_at};
+ghost use Rattle.jk_block.specs.Fields.{words_of};
 ghost use Rattle.jk_block.specs.Steps.{IsWordPlace, word_pass, number_of};
 ghost use Rattle.jk_block.specs.decoding.BlockStates.{TakesStep, IsFresh, draft_of};
 
@@ -15,15 +16,16 @@ use jk_scan::words_across;
 
 /// Reads a word in a pass.
 #[inline(always)]
-fn read_word<const N: usize>(
-    block_state: &mut BlockState<N>,
+fn read_word(
+    block_state: &mut BlockState,
     decoder: &mut PassDecoder,
-    refined: &[u64; N],
+    refined: &[u64],
     spot: WordPlace,
     pass: Pass,
 ) -> Result<(), Fault>
     requires spot { IsWordPlace block_state.old.shape spot }
     requires plane { spot.plane < block_state.old.planes }
+    requires room { words_of block_state.old.shape ≤ length refined.now }
     requires fresh { number_of pass ≡ 1 → IsFresh spot.plane refined.now (draft_of block_state.old) }
     ensures shape { block_state.new.shape ≡ block_state.old.shape }
     ensures planes { block_state.new.planes ≡ block_state.old.planes }
@@ -42,16 +44,17 @@ fn read_word<const N: usize>(
 
 /// Reads a stripe in a pass.
 #[inline(always)]
-fn read_stripe<const N: usize>(
-    block_state: &mut BlockState<N>,
+fn read_stripe(
+    block_state: &mut BlockState,
     decoder: &mut PassDecoder,
-    refined: &[u64; N],
+    refined: &[u64],
     plane: u32,
     pass: Pass,
     stripe: usize,
 ) -> Result<(), Fault>
     requires plane { plane < block_state.old.planes }
     requires stripe { stripe < stripes block_state.old.shape }
+    requires room { words_of block_state.old.shape ≤ length refined.now }
     requires fresh { number_of pass ≡ 1 → IsFresh plane refined.now (draft_of block_state.old) }
     ensures shape { block_state.new.shape ≡ block_state.old.shape }
     ensures planes { block_state.new.planes ≡ block_state.old.planes }
@@ -73,14 +76,15 @@ fn read_stripe<const N: usize>(
 
 /// Reads all places in a pass of a bit-plane.
 #[inline(always)]
-pub fn read_bit_plane<const N: usize>(
-    block_state: &mut BlockState<N>,
+pub fn read_bit_plane(
+    block_state: &mut BlockState,
     decoder: &mut PassDecoder,
-    refined: &[u64; N],
+    refined: &[u64],
     plane: u32,
     pass: Pass,
 ) -> Result<(), Fault>
     requires plane { plane < block_state.old.planes }
+    requires room { words_of block_state.old.shape ≤ length refined.now }
     requires fresh { number_of pass ≡ 1 → IsFresh plane refined.now (draft_of block_state.old) }
     ensures shape { block_state.new.shape ≡ block_state.old.shape }
     ensures planes { block_state.new.planes ≡ block_state.old.planes }

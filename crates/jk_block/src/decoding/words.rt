@@ -3,7 +3,7 @@
 //! and is put back into the sketch behind the last.
 
 ghost use Rattle.std.specs.Prelude.{◌≡◌, ℕ, Bool, true, not, nat_eq, nat_lt, ◌&&◌, ◌+◌, ◌*◌, ◌/◌, ◌%◌, ◌^◌, ◌<◌, ◌≤◌};
-ghost use Rattle.std.specs.Prelude.{bit_and};
+ghost use Rattle.std.specs.Prelude.{bit_and, length};
 ghost use Rattle.std.specs.Int.{bit_not, w64};
 ghost use Rattle.jk_scan.specs.Bits.{on};
 ghost use Rattle.jk_scan.specs.Neighbours.{Field, is_inside, seen_from};
@@ -23,7 +23,7 @@ use crate::word_place::WordPlace;
 use jk_math::Fault;
 use jk_mqdec::PassDecoder;
 use jk_scan::{
-    Around, BlockShape, inside, members, quiet_behind, quiet_columns, refine_context, seen_among,
+    Around, BlockShape, inside, members, quiet_behind, quiet_columns, refine_context,
     touched_places, word_place,
 };
 
@@ -40,8 +40,8 @@ fn later_touched(significant: u64, limits: u64, k: u32) -> u64
 /// Reads a word in the significance propagation pass (T.800 D.3.1). A place that becomes
 /// significant takes in the later ones of its word that it touches.
 #[inline(always)]
-pub fn read_propagation<const N: usize>(
-    block_state: &mut BlockState<N>,
+pub fn read_propagation(
+    block_state: &mut BlockState,
     decoder: &mut PassDecoder,
     spot: WordPlace,
 ) -> Result<(), Fault>
@@ -55,12 +55,12 @@ pub fn read_propagation<const N: usize>(
 {
     let shape = block_state.shape;
     let limits = inside(shape, spot.word, spot.stripe);
-    let significant = seen_among(&block_state.significant, shape, spot.word, spot.stripe);
+    let significant = block_state.significant_around(spot);
     let mut candidates = members(significant, limits);
     if candidates == 0 {
         return Ok(());
     }
-    let negative = seen_among(&block_state.negative, shape, spot.word, spot.stripe);
+    let negative = block_state.negative_around(spot);
     let mut sight = Sight {
         significant,
         negative,
@@ -83,7 +83,7 @@ pub fn read_propagation<const N: usize>(
 
 /// The places of a word that were significant before this plane.
 #[inline(always)]
-fn older<const N: usize>(block_state: &BlockState<N>, spot: WordPlace) -> u64
+fn older(block_state: &BlockState, spot: WordPlace) -> u64
     requires { IsWordPlace block_state.now.shape spot }
     ensures { (m : ℕ) → m < 64 → on result m ≡ (of_rows (m % 8)
         && (significant_in (draft_of block_state.now) (column spot.word m) (row spot.stripe m)
@@ -97,9 +97,9 @@ fn older<const N: usize>(block_state: &BlockState<N>, spot: WordPlace) -> u64
 
 /// The places of a word that the words show.
 #[inline(always)]
-fn refined_places<const N: usize>(refined: &[u64; N], shape: BlockShape, spot: WordPlace) -> u64
+fn refined_places(refined: &[u64], shape: BlockShape, spot: WordPlace) -> u64
     requires sized { IsSized shape }
-    requires room { words_of shape ≤ N }
+    requires room { words_of shape ≤ length refined.now }
     requires spot { IsWordPlace shape spot }
     ensures { (m : ℕ) → m < 64 → of_rows (m % 8) ≡ true
         → on result m ≡ flag_at shape refined.now (column spot.word m) (row spot.stripe m) }
@@ -109,14 +109,15 @@ fn refined_places<const N: usize>(refined: &[u64; N], shape: BlockShape, spot: W
 
 /// Reads a word in the magnitude refinement pass (T.800 D.3.3).
 #[inline(always)]
-pub fn read_refinement<const N: usize>(
-    block_state: &mut BlockState<N>,
+pub fn read_refinement(
+    block_state: &mut BlockState,
     decoder: &mut PassDecoder,
-    refined: &[u64; N],
+    refined: &[u64],
     spot: WordPlace,
 ) -> Result<(), Fault>
     requires spot { IsWordPlace block_state.old.shape spot }
     requires plane { spot.plane < block_state.old.planes }
+    requires room { words_of block_state.old.shape ≤ length refined.now }
     requires fresh { IsFresh spot.plane refined.now (draft_of block_state.old) }
     ensures shape { block_state.new.shape ≡ block_state.old.shape }
     ensures planes { block_state.new.planes ≡ block_state.old.planes }
@@ -130,7 +131,7 @@ pub fn read_refinement<const N: usize>(
     if places == 0 {
         return Ok(());
     }
-    let significant = seen_among(&block_state.significant, shape, spot.word, spot.stripe);
+    let significant = block_state.significant_around(spot);
     let touched = touched_places(significant);
     let again = refined_places(refined, shape, spot);
     let mut candidates = places;
@@ -148,7 +149,7 @@ pub fn read_refinement<const N: usize>(
 
 /// The places of a word that no pass has coded yet.
 #[inline(always)]
-fn uncoded<const N: usize>(block_state: &BlockState<N>, spot: WordPlace, limits: u64) -> u64
+fn uncoded(block_state: &BlockState, spot: WordPlace, limits: u64) -> u64
     requires spot { IsWordPlace block_state.now.shape spot }
     requires limits { Shows of_rows (bordered (is_inside block_state.now.shape)) (spot.word + 1) (spot.stripe + 1) limits }
     ensures { (m : ℕ) → m < 64
@@ -183,8 +184,8 @@ fn still_columns(shape: BlockShape, spot: WordPlace, seen: Around, limits: u64) 
 /// Reads a word in the cleanup pass (T.800 D.3.4): the places that are left, and columns in run
 /// mode.
 #[inline(always)]
-pub fn read_cleanup<const N: usize>(
-    block_state: &mut BlockState<N>,
+pub fn read_cleanup(
+    block_state: &mut BlockState,
     decoder: &mut PassDecoder,
     spot: WordPlace,
 ) -> Result<(), Fault>
@@ -198,13 +199,13 @@ pub fn read_cleanup<const N: usize>(
 {
     let shape = block_state.shape;
     let limits = inside(shape, spot.word, spot.stripe);
-    let significant = seen_among(&block_state.significant, shape, spot.word, spot.stripe);
+    let significant = block_state.significant_around(spot);
     let mut left = uncoded(block_state, spot, limits);
     let mut still = still_columns(shape, spot, significant, limits);
     if left | still == 0 {
         return Ok(());
     }
-    let negative = seen_among(&block_state.negative, shape, spot.word, spot.stripe);
+    let negative = block_state.negative_around(spot);
     let mut sight = Sight {
         significant,
         negative,

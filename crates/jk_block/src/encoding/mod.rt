@@ -17,10 +17,11 @@ ghost use Rattle.jk_block.specs.CodedBlocks.{shape_of, coefficients_of, contents
 ghost use Rattle.jk_scan.specs.Flags.{IsSized};
 ghost use Rattle.jk_scan.specs.Moments.{old, visits};
 ghost use Rattle.jk_scan.specs.Neighbours.{is_inside};
-ghost use Rattle.jk_block.specs.Fields.{words_of};
+ghost use Rattle.jk_block.specs.Ages.{HasRoom};
+ghost use Rattle.jk_block.specs.Fields.{words_of, AreSameWords};
 ghost use Rattle.jk_block.specs.Steps.{number_of};
 ghost use Rattle.jk_block.specs.encoding.Slices.{slices_of};
-ghost use Rattle.jk_block.specs.encoding.Viewed.{seen, IsFlagged, IsSignificantUpto};
+ghost use Rattle.jk_block.specs.encoding.Viewed.{seen, HasFlagRoom, IsFlagged, IsSignificantUpto};
 
 mod ahead;
 mod decisions;
@@ -30,7 +31,7 @@ mod plane;
 mod slices;
 mod words;
 
-use crate::ages::{Ages, words_of};
+use crate::ages::{Ages, unmarked, words_of};
 use crate::contexts::UNIFORM;
 use crate::decoding::Block;
 use crate::word_place::{Pass, ends_with_symbol, pass_of};
@@ -41,7 +42,7 @@ use jk_mqenc::Encoder;
 use jk_scan::{BlockShape, WORDS};
 use passes::write_pass;
 use plane::BlockPlane;
-use slices::{SLICES, blank, negative_places, slice_all};
+use slices::{SLICES, blank, mark_all_negative, slice_all};
 use std::alloc::Global;
 
 /// A code-block as it is written.
@@ -112,15 +113,14 @@ fn end_pass(encoder: &mut Encoder, style: Style, pass: Pass) -> Result<(), Fault
 }
 
 /// Codes a pass, and marks how many bytes are placed then.
-fn code_pass<const N: usize>(
+fn code_pass(
     block: &BlockPlane<'_>,
-    flags: &mut Flags<N>,
+    flags: &mut Flags,
     pass: Pass,
     list: &mut DecisionList,
     encoder: &mut Encoder,
     marks: &mut Vec<usize>,
 ) -> Result<(), Fault>
-    requires room { words_of block.now.shape ≤ N }
     requires flagged { IsFlagged block.now (number_of pass * visits block.now.shape) flags.old }
     ensures flagged { IfOk result (λ _. IsFlagged block.now ((number_of pass + 1) * visits block.now.shape) flags.new) }
     ensures codes { IfOk result (λ _. (dss : List (List Decision)) → Codes encoder.old block.now.shape.style.reset dss
@@ -140,17 +140,18 @@ fn code_pass<const N: usize>(
     Ok(())
 }
 
-/// Codes the passes of the plane that has so many planes above it.
-fn code_plane<const N: usize>(
+/// Codes the passes of the plane that has so many planes above it. They stand here once for blocks
+/// of every size.
+#[inline(never)]
+fn code_plane(
     block: &BlockPlane<'_>,
     planes: u32,
     above: u32,
-    flags: &mut Flags<N>,
+    flags: &mut Flags,
     list: &mut DecisionList,
     encoder: &mut Encoder,
     marks: &mut Vec<usize>,
 ) -> Result<(), Fault>
-    requires room { words_of block.now.shape ≤ N }
     requires planes { planes ≤ 23 }
     requires above { above < planes }
     requires plane { block.now.plane ≡ planes - 1 - above }
@@ -172,6 +173,18 @@ fn code_plane<const N: usize>(
         code_pass(block, flags, pass_of(n as usize), list, encoder, marks)?;
     }
     Ok(())
+}
+
+/// Notes what is significant as a plane begins.
+fn note(ages: &mut Ages, shape: BlockShape, flags: &Flags)
+    requires sized { IsSized shape }
+    requires given { HasFlagRoom shape flags.now }
+    requires room { HasRoom shape ages.old }
+    ensures refined { ages.new.refined ≡ ages.old.older }
+    ensures older { AreSameWords shape flags.now.significant.now ages.new.older }
+    ensures room { HasRoom shape ages.new }
+{
+    ages.note(shape, &flags.significant);
 }
 
 /// Codes all passes of a block, with arrays of so many words and slices.
@@ -198,18 +211,23 @@ fn code_planes<const N: usize, const S: usize>(
         encoder.new marks.new.items) }
     ensures memory { IfErr result IsMemory }
 {
-    let mut flags = Flags::<N>::new();
-    let mut ages = Ages::<N>::none();
+    let mut significant = unmarked::<N>();
+    let mut visited = unmarked::<N>();
+    let mut flags = Flags::new(&mut significant, &mut visited);
+    let mut even = unmarked::<N>();
+    let mut odd = unmarked::<N>();
+    let mut ages = Ages::new(&mut even, &mut odd);
     let mut slices = blank::<S>();
     slice_all(&mut slices, shape, values, 24);
-    let negative = negative_places::<N>(&slices, shape);
+    let mut negative = unmarked::<N>();
+    mark_all_negative(&slices, shape, &mut negative);
     slice_all(&mut slices, shape, values, planes / 8 * 8);
     for above in 0..planes {
         let plane = planes - 1 - above;
         if plane % 8 == 7 {
             slice_all(&mut slices, shape, values, plane - 7);
         }
-        ages.note(shape, &flags.significant);
+        note(&mut ages, shape, &flags);
         let block = BlockPlane {
             shape,
             values,

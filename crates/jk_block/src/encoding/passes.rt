@@ -4,7 +4,6 @@ ghost use Rattle.std.specs.Prelude.{◌≡◌, ◌+◌, ◌*◌, ◌<◌, ◌≤
 ghost use Rattle.jk_math.specs.Memory.{IsMemory};
 ghost use Rattle.jk_scan.specs.Moments.{visits, stripes};
 ghost use Rattle.jk_scan.specs.Passes.{joined, column_decisions, plane_decisions};
-ghost use Rattle.jk_block.specs.Fields.{words_of};
 ghost use Rattle.jk_block.specs.Steps.{IsWordPlace, number_of};
 ghost use Rattle.jk_block.specs.encoding.Viewed.{seen, IsFlagged, moment_at, word_decisions};
 
@@ -18,14 +17,13 @@ use jk_scan::words_across;
 
 /// A word in a pass.
 #[inline(always)]
-fn write_word<const N: usize>(
+fn write_word(
     block: &BlockPlane<'_>,
-    flags: &mut Flags<N>,
+    flags: &mut Flags,
     pass: Pass,
     spot: WordPlace,
     list: &mut DecisionList,
 ) -> Result<(), Fault>
-    requires room { words_of block.now.shape ≤ N }
     requires spot { IsWordPlace block.now.shape spot }
     requires flagged { IsFlagged block.now
         (moment_at block.now.shape (number_of pass) spot.word spot.stripe 0) flags.old }
@@ -45,14 +43,13 @@ fn write_word<const N: usize>(
 
 /// A stripe.
 #[inline(never)]
-fn write_stripe<const N: usize>(
+fn write_stripe(
     block: &BlockPlane<'_>,
-    flags: &mut Flags<N>,
+    flags: &mut Flags,
     pass: Pass,
     stripe: usize,
     list: &mut DecisionList,
 ) -> Result<(), Fault>
-    requires room { words_of block.now.shape ≤ N }
     requires stripe { stripe < stripes block.now.shape }
     requires flagged { IsFlagged block.now (moment_at block.now.shape (number_of pass) 0 stripe 0) flags.old }
     ensures flagged { IfOk result
@@ -74,13 +71,12 @@ fn write_stripe<const N: usize>(
 }
 
 /// All decisions of a pass, stripe by stripe.
-pub fn write_pass<const N: usize>(
+pub fn write_pass(
     block: &BlockPlane<'_>,
-    flags: &mut Flags<N>,
+    flags: &mut Flags,
     pass: Pass,
     list: &mut DecisionList,
 ) -> Result<(), Fault>
-    requires room { words_of block.now.shape ≤ N }
     requires flagged { IsFlagged block.now (number_of pass * visits block.now.shape) flags.old }
     ensures flagged { IfOk result (λ _. IsFlagged block.now ((number_of pass + 1) * visits block.now.shape) flags.new) }
     ensures listed { IfOk result

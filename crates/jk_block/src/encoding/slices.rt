@@ -7,14 +7,13 @@ ghost use Rattle.jk_scan.specs.Bits.{on};
 ghost use Rattle.jk_scan.specs.Flags.{IsSized, IsDrawn, across};
 ghost use Rattle.jk_scan.specs.Moments.{stripes};
 ghost use Rattle.jk_scan.specs.Neighbours.{Field};
-ghost use Rattle.jk_block.specs.Fields.{words_of};
+ghost use Rattle.jk_block.specs.Fields.{words_of, AreUnmarked};
 ghost use Rattle.jk_block.specs.Meaning.{value_in};
 ghost use Rattle.jk_block.specs.encoding.Slices.{signed, negative_of, negative_to, IsShort, IsSliced, IsSlicedTo};
 ghost use Rattle.jk_block.specs.encoding.Slices.{IsClearBehind, slices_of};
 ghost use Rattle.jk_block.specs.encoding.Slices.{IsPlaneWord};
 ghost use Rattle.jk_block.specs.Steps.{IsWordPlace};
 
-use crate::ages::unmarked;
 use crate::word_place::WordPlace;
 use jk_scan::{BlockShape, word_place, words_across};
 
@@ -67,20 +66,15 @@ fn slice(values: &[i32], start: usize, count: usize, shift: u32) -> u64
 }
 
 /// The slices of a row.
-fn slice_row<const S: usize>(
-    slices: &mut [u64; S],
-    shape: BlockShape,
-    values: &[i32],
-    row: usize,
-    shift: u32,
-)
+fn slice_row(slices: &mut [u64], shape: BlockShape, values: &[i32], row: usize, shift: u32)
     requires sized { IsSized shape }
-    requires room { slices_of shape ≤ S }
+    requires room { slices_of shape ≤ length slices.old }
     requires whole { length values.now ≡ shape.width * shape.height }
     requires row { row < shape.height }
     requires shift { shift < 32 }
     requires before { IsSlicedTo shape shift (value_in shape values.now) (row * across shape) slices.old }
-    ensures { IsSlicedTo shape shift (value_in shape values.now) ((row + 1) * across shape) slices.new }
+    ensures sliced { IsSlicedTo shape shift (value_in shape values.now) ((row + 1) * across shape) slices.new }
+    ensures length { length slices.new ≡ length slices.old }
 {
     let across = words_across(shape);
     for word in 0..across {
@@ -98,18 +92,15 @@ pub fn blank<const S: usize>() -> [u64; S]
 }
 
 /// Makes the slices of a block, of the bytes of its magnitudes from a bit on.
-pub fn slice_all<const S: usize>(
-    slices: &mut [u64; S],
-    shape: BlockShape,
-    values: &[i32],
-    shift: u32,
-)
+#[inline(never)]
+pub fn slice_all(slices: &mut [u64], shape: BlockShape, values: &[i32], shift: u32)
     requires sized { IsSized shape }
-    requires room { slices_of shape ≤ S }
+    requires room { slices_of shape ≤ length slices.old }
     requires whole { length values.now ≡ shape.width * shape.height }
     requires shift { shift < 32 }
     requires clear { IsClearBehind shape slices.old }
-    ensures { IsSliced shape shift (value_in shape values.now) slices.new }
+    ensures sliced { IsSliced shape shift (value_in shape values.now) slices.new }
+    ensures length { length slices.new ≡ length slices.old }
 {
     for row in 0..shape.height {
         slice_row(slices, shape, values, row, shift);
@@ -144,19 +135,15 @@ pub fn ones(slices: &[u64], shape: BlockShape, spot: WordPlace, bit: u32) -> u64
 }
 
 /// Marks the negative places of a stripe.
-fn mark_negative<const N: usize>(
-    slices: &[u64],
-    shape: BlockShape,
-    stripe: usize,
-    words: &mut [u64; N],
-)
+fn mark_negative(slices: &[u64], shape: BlockShape, stripe: usize, words: &mut [u64])
     requires sized { IsSized shape }
     requires space { slices_of shape ≤ length slices.now }
-    requires room { words_of shape ≤ N }
+    requires room { words_of shape ≤ length words.old }
     requires stripe { stripe < stripes shape }
-    ensures { (q : Field ℤ) → IsShort shape q → IsSliced shape 24 q slices.now
+    ensures marked { (q : Field ℤ) → IsShort shape q → IsSliced shape 24 q slices.now
         → IsDrawn shape (negative_to shape q (stripe * across shape)) words.old
         → IsDrawn shape (negative_to shape q ((stripe + 1) * across shape)) words.new }
+    ensures length { length words.new ≡ length words.old }
 {
     for word in 0..words_across(shape) {
         let spot = WordPlace {
@@ -168,17 +155,17 @@ fn mark_negative<const N: usize>(
     }
 }
 
-/// The negative places of a block, by the slices of its highest bytes.
-pub fn negative_places<const N: usize>(slices: &[u64], shape: BlockShape) -> [u64; N]
+/// Marks the negative places of a block, by the slices of its highest bytes.
+#[inline(never)]
+pub fn mark_all_negative(slices: &[u64], shape: BlockShape, words: &mut [u64])
     requires sized { IsSized shape }
     requires space { slices_of shape ≤ length slices.now }
-    requires room { words_of shape ≤ N }
-    ensures { (q : Field ℤ) → IsShort shape q → IsSliced shape 24 q slices.now
-        → IsDrawn shape (negative_of shape q) result }
+    requires unmarked { AreUnmarked shape words.old }
+    ensures marked { (q : Field ℤ) → IsShort shape q → IsSliced shape 24 q slices.now
+        → IsDrawn shape (negative_of shape q) words.new }
+    ensures length { length words.new ≡ length words.old }
 {
-    let mut words = unmarked();
     for stripe in 0..(shape.height + 3) / 4 {
-        mark_negative(slices, shape, stripe, &mut words);
+        mark_negative(slices, shape, stripe, words);
     }
-    words
 }

@@ -11,9 +11,9 @@ ghost use Rattle.jk_scan.specs.WordPlaces.{column, row};
 ghost use Rattle.jk_scan.specs.Surroundings.{IsAround, Turns};
 ghost use Rattle.jk_scan.specs.Flags.{IsSized};
 ghost use Rattle.jk_block.specs.Reading.{is_quiet};
-ghost use Rattle.jk_block.specs.Fields.{words_of};
 ghost use Rattle.jk_block.specs.Steps.{IsWordPlace};
-ghost use Rattle.jk_block.specs.encoding.Viewed.{seen, significant_at, spread_at, IsFlagged, moment_at, word_decisions};
+ghost use Rattle.jk_block.specs.encoding.Viewed.{seen, significant_at, spread_at, moment_at, word_decisions};
+ghost use Rattle.jk_block.specs.encoding.Viewed.{IsFlagged, HasFlagRoom};
 
 use super::ahead::with_reached;
 use super::decisions::{DecisionList, make_room};
@@ -31,13 +31,12 @@ use jk_scan::{
 /// is what each of them has around it: of the places before it those that are significant behind
 /// this pass, of the others those that are so before it.
 #[inline(always)]
-pub fn write_propagation<const N: usize>(
+pub fn write_propagation(
     block: &BlockPlane<'_>,
-    flags: &mut Flags<N>,
+    flags: &mut Flags,
     spot: WordPlace,
     list: &mut DecisionList,
 ) -> Result<(), Fault>
-    requires room { words_of block.now.shape ≤ N }
     requires spot { IsWordPlace block.now.shape spot }
     requires flagged { IsFlagged block.now (moment_at block.now.shape 0 spot.word spot.stripe 0) flags.old }
     ensures flagged { IfOk result
@@ -48,7 +47,7 @@ pub fn write_propagation<const N: usize>(
 {
     let own = *block;
     let limits = inside(own.shape, spot.word, spot.stripe);
-    let around = seen_among(&flags.significant, own.shape, spot.word, spot.stripe);
+    let around = flags.significant_around(own.shape, spot);
     let candidates = members(around, limits);
     if candidates == 0 {
         return Ok(());
@@ -71,8 +70,8 @@ pub fn write_propagation<const N: usize>(
 
 /// The places of a word that were significant before this plane.
 #[inline(always)]
-fn older<const N: usize>(block: &BlockPlane<'_>, flags: &Flags<N>, spot: WordPlace) -> u64
-    requires room { words_of block.now.shape ≤ N }
+fn older(block: &BlockPlane<'_>, flags: &Flags, spot: WordPlace) -> u64
+    requires room { HasFlagRoom block.now.shape flags.now }
     requires spot { IsWordPlace block.now.shape spot }
     ensures { (t : ℕ) → IsFlagged block.now t flags.now → (m : ℕ) → m < 64 → on result m ≡ (of_rows (m % 8)
         && (significant_at block.now t (column spot.word m) (row spot.stripe m)
@@ -86,13 +85,12 @@ fn older<const N: usize>(block: &BlockPlane<'_>, flags: &Flags<N>, spot: WordPla
 
 /// A word in the magnitude refinement pass (T.800 D.3.3).
 #[inline(always)]
-pub fn write_refinement<const N: usize>(
+pub fn write_refinement(
     block: &BlockPlane<'_>,
-    flags: &Flags<N>,
+    flags: &Flags,
     spot: WordPlace,
     list: &mut DecisionList,
 ) -> Result<(), Fault>
-    requires room { words_of block.now.shape ≤ N }
     requires spot { IsWordPlace block.now.shape spot }
     requires flagged { IsFlagged block.now (moment_at block.now.shape 1 spot.word spot.stripe 0) flags.now }
     ensures flagged { IfOk result
@@ -106,7 +104,7 @@ pub fn write_refinement<const N: usize>(
     if candidates == 0 {
         return Ok(());
     }
-    let around = seen_among(&flags.significant, own.shape, spot.word, spot.stripe);
+    let around = flags.significant_around(own.shape, spot);
     let touched = touched_places(around);
     let refined = own.refined_places(spot);
     let ones = own.ones(spot);
@@ -118,13 +116,8 @@ pub fn write_refinement<const N: usize>(
 
 /// The places of a word that no pass has coded yet.
 #[inline(always)]
-fn uncoded<const N: usize>(
-    block: &BlockPlane<'_>,
-    flags: &Flags<N>,
-    spot: WordPlace,
-    limits: u64,
-) -> u64
-    requires room { words_of block.now.shape ≤ N }
+fn uncoded(block: &BlockPlane<'_>, flags: &Flags, spot: WordPlace, limits: u64) -> u64
+    requires room { HasFlagRoom block.now.shape flags.now }
     requires spot { IsWordPlace block.now.shape spot }
     requires limits { Shows of_rows (bordered (is_inside block.now.shape)) (spot.word + 1) (spot.stripe + 1) limits }
     ensures { (t : ℕ) → IsFlagged block.now t flags.now → (m : ℕ) → m < 64 → on result m ≡ (of_rows (m % 8)
@@ -161,13 +154,12 @@ fn run_columns(shape: BlockShape, spot: WordPlace, seen: Around, old: u64, limit
 /// A word in the cleanup pass (T.800 D.3.4): all places that are left, and columns in run mode.
 /// What each place has around it is known at once, as in the significance propagation pass.
 #[inline(always)]
-pub fn write_cleanup<const N: usize>(
+pub fn write_cleanup(
     block: &BlockPlane<'_>,
-    flags: &mut Flags<N>,
+    flags: &mut Flags,
     spot: WordPlace,
     list: &mut DecisionList,
 ) -> Result<(), Fault>
-    requires room { words_of block.now.shape ≤ N }
     requires spot { IsWordPlace block.now.shape spot }
     requires flagged { IsFlagged block.now (moment_at block.now.shape 2 spot.word spot.stripe 0) flags.old }
     ensures flagged { IfOk result
@@ -182,7 +174,7 @@ pub fn write_cleanup<const N: usize>(
     if left == 0 {
         return Ok(());
     }
-    let around = seen_among(&flags.significant, own.shape, spot.word, spot.stripe);
+    let around = flags.significant_around(own.shape, spot);
     let before = around.centre;
     let ones = own.ones(spot);
     let new = left & ones;

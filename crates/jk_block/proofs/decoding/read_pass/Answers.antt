@@ -29,7 +29,7 @@ scan_is bytes bs s s' planes n pass k k' e kind same read begins coder =
 
 pub returns-in_err-read_bit_plane-clause-takes : goal.returns-in_err-read_bit_plane-clause-takes
 unfolding pass_at scan
-returns-in_err-read_bit_plane-clause-takes g c =
+returns-in_err-read_bit_plane-clause-takes c =
     let p = err_from_is_err_and c.from_residual.result c.from_residual.ensures.1 in
     let k = draft_of c.args.block_state.now in
     let v = c.args.decoder.now in
@@ -47,7 +47,7 @@ returns-in_err-read_bit_plane-clause-takes g c =
 
 pub returns-clause-takes : goal.returns-clause-takes
 unfolding pass_at scan
-returns-clause-takes g c =
+returns-clause-takes c =
     let k = draft_of c.args.block_state.now in
     let v = c.args.decoder.now in
     let w = c.begin_contexts.new.decoder in

@@ -10,7 +10,7 @@ use Rattle.jk_block.proofs.encoding.Written.{coded_pass}
 use Rattle.jk_block.proofs.encoding.code_plane.Goals as goal
 
 pub loop-n-init : goal.loop-n-init
-loop-n-init g c =
+loop-n-init c =
     let v = c.args.block.now in
     let flags = c.args.flags.now in
     let new = c.begin.new.self in
@@ -18,8 +18,8 @@ loop-n-init g c =
     let first : c.saturating_sub-n.result ≡ 3 * c.args.above - 2 = omega arith in (
       subst (λ n. HasCodedPasses v.shape c.args.planes n (value_in v.shape v.values.now) c.args.encoder.now c.args.marks.now.items) (sym first) c.requires.before,
       elim (cases_lt 0 c.args.above) [
-        | inl some ↦ subst (λ k. IsFlagged v (k * visits v.shape) new) (omega (arith, some, first)) (begun_plane v flags new c.requires.known_significant e.significant e.visited)
-        | inr none ↦ subst (λ k. IsFlagged v (k * visits v.shape) new) (omega (arith, none, first)) (begun_top v flags new c.requires.known_significant e.significant e.visited (c.requires.top (omega (arith, none))))
+        | inl some ↦ subst (λ k. IsFlagged v (k * visits v.shape) new) (omega (arith, some, first)) (begun_plane v flags new c.requires.known_significant e.significant e.room e.visited)
+        | inr none ↦ subst (λ k. IsFlagged v (k * visits v.shape) new) (omega (arith, none, first)) (begun_top v flags new c.requires.known_significant e.significant e.room e.visited (c.requires.top (omega (arith, none))))
       ],
     )
 
@@ -27,7 +27,7 @@ kind : (n above : ℕ) → 3 * above - 2 ≤ n → n ≤ 3 * above → kind_of n
 kind n above low high = omega (arith, low, high)
 
 pub loop-n-preserved : goal.loop-n-preserved
-loop-n-preserved g c =
+loop-n-preserved c =
     let b = c.args.block.now in
     let r = c.requires.plane in
     let l = c.loop-n in
@@ -41,7 +41,7 @@ loop-n-preserved g c =
     )
 
 pub returns-clause-known_significant : goal.returns-clause-known_significant
-returns-clause-known_significant g c =
+returns-clause-known_significant c =
     let v = c.args.block.now in
     let l = c.loop-n in
     ended_plane v l.flags (subst (λ k. IsFlagged v (k * visits v.shape) l.flags) (omega arith) l.invariant.1)

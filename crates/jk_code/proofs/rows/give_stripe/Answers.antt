@@ -46,7 +46,7 @@ image_of-requires g c =
     let stripe : Rect = record { x0 = i.area.x0; y0 = y; x1 = i.area.x1; y1 = z } in
     let both = bounds s c.args.coded.now c.args.row.now.first y z c.coded.view_is c.coded.invariant c.requires.row.whole c.requires.from c.requires.to in
     let planes = planes_of s c.args.coded.now stripe (lists_of c.in_ok-planes.planes.items) c.coded.view_is c.in_ok-planes.ensures.planes in
-    subst (λ (ls : List (List ℤ)). IsPicture (picture_with s.headers.siz stripe ls)) (sym planes) (stripe_picture s y z c.coded.invariant both.0 c.requires.order both.1)
+    subst (λ (ls : List (List ℤ)). IsPicture (picture_with s.headers.siz stripe ls)) (sym planes) (stripe_picture s y z c.coded.invariant both.0 (let order = c.requires.order in omega (arith, order, c.if-y-end.false)) both.1)
 
 pub returns-clause-taken : goal.returns-clause-taken
 returns-clause-taken g c =
@@ -60,4 +60,4 @@ returns-clause-taken g c =
     let planes = planes_of s c.args.coded.now stripe (lists_of c.in_ok-planes.planes.items) c.coded.view_is c.in_ok-planes.ensures.planes in
     let image = ok_is _ _ (sym c.in_ok-image_of.was ∙ c.image_of.ensures)
     ∙ ap (picture_with s.headers.siz stripe) planes ∙ stripe_rows s y z c.coded.invariant both.0 both.1 ∙ ap (λ (x : ImageSource). rows_of (picture_of x) y z) c.coded.view_is in
-    on_one c.take.result (λ t. taken_one took (picture_of c.args.coded.now) y z c.args.rows.now c.take.new.self c.requires.order (subst (λ (p : Picture). took c.args.rows.now p c.take.new.self) image t)) c.take.ensures.took
+    on_one c.take.result (λ t. taken_one took (picture_of c.args.coded.now) y z c.args.rows.now c.take.new.self (let order = c.requires.order in omega (arith, order, c.if-y-end.false)) (subst (λ (p : Picture). took c.args.rows.now p c.take.new.self) image t)) c.take.ensures.took

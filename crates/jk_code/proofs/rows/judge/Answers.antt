@@ -28,6 +28,7 @@ returns-in_err-judge_tile c =
     record {
       exact = rw (q.1, q.2) (refuses_on e _ (tiles_tested s.bytes s.headers s.reduce (tile_count s.headers.siz)) refuses
           (λ failed. each_fails (tile_count s.headers.siz) t (λ n. tested (tile_planes_at s.bytes s.headers n s.reduce (places_at s.bytes s.headers n))) e lt c.loop-number.invariant.tested (tile_tests s t is lt ∙ failed)));
+      source = is;
     }
 
 pub loop-number-preserved : goal.loop-number-preserved
@@ -46,4 +47,4 @@ pub returns : goal.returns
 returns c =
     let s = c.args.coded.now in
     let all : c.loop-number.number ≡ tile_count s.headers.siz = omega (arith, c.loop-number-test.false, c.loop-number.auto.number-end, c.loop-number.invariant.end_is) in
-    record { exact = ap (tiles_tested s.bytes s.headers s.reduce) (sym all) ∙ c.loop-number.invariant.tested }
+    record { exact = ap (tiles_tested s.bytes s.headers s.reduce) (sym all) ∙ c.loop-number.invariant.tested; source = subst IsImageSource c.coded.view_is c.coded.invariant }

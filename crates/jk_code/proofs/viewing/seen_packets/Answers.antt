@@ -1,10 +1,11 @@
-use Rattle.std.proofs.Common.{◌≡◌, ◌<◌, ◌+◌, true, if◌then◌else◌, List, Option, Ok, length, ◌∙◌, ap, sym, subst, arith}
+use Rattle.std.proofs.Common.{◌≡◌, ◌<◌, ◌+◌, true, if◌then◌else◌, List, Option, Ok, Err, length, ◌∙◌, ap, sym, subst, arith}
 use Rattle.std.proofs.lemmas.Result.{err_from_is_err_and}
 use Rattle.jk_marks.specs.Siz.{tile_count}
 use Rattle.jk_walk.specs.declared.places.PacketPlace.{PacketPlace}
 use Rattle.jk_walk.specs.WalkReading.{packets_at}
 use Rattle.jk_tile.specs.decoding.TileReading.{tested}
 use Rattle.jk_tile.proofs.Laws.{fine, each_none, each_more, each_fails, refuses_on, tested_err}
+use Rattle.jk_code.specs.Sources.{CodestreamSource}
 use Rattle.jk_code.specs.Tiles.{AreSeen}
 use Rattle.jk_code.specs.ViewReading.{is_seen, seen_packets_tested}
 use Rattle.jk_code.proofs.ViewSteps.{if_true, seen_is, IsOwn, own_read, own_none, seen_more}
@@ -13,7 +14,7 @@ use Rattle.jk_code.proofs.viewing.seen_packets.Goals.{then-touches+in_ok-read_pa
 
 pub loop-number-init : goal.loop-number-init
 loop-number-init c = record {
-  end_is = c.tile_count-number-end.ensures ∙ c.requires.sound.tiles;
+  end_is = c.tile_count-number-end.ensures ∙ c.source.invariant.tiles;
   tested = each_none _;
   read = record {
     count = ap (λ (xs : List (Option (List PacketPlace))). length xs) c.new-all.ensures.items;
@@ -24,8 +25,8 @@ loop-number-init c = record {
 
 pub returns-in_err-read_packets-clause-exact : goal.returns-in_err-read_packets-clause-exact
 returns-in_err-read_packets-clause-exact c =
-    let bytes = c.args.bytes.now in
-    let h = c.args.headers.now in
+    let bytes = c.source.inside.bytes.now in
+    let h = c.source.inside.headers.now in
     let d = c.args.reduce in
     let w = c.args.window.now in
     let n = c.loop-number.number in
@@ -34,13 +35,14 @@ returns-in_err-read_packets-clause-exact c =
     let lt : n < tile_count h.siz = omega (arith, c.loop-number-test.true, c.loop-number.invariant.end_is) in
     let seen : is_seen h d w n ≡ true = seen_is h d n w c.shown.result c.touches.result true c.shown.ensures.value c.touches.ensures c.if-touches.true in
     rw (q.1, q.2) (refuses_on e (packets_at bytes h n) _ c.in_err-read_packets.ensures.exact
-    (λ is. each_fails (tile_count h.siz) n (λ t. if is_seen h d w t then tested (packets_at bytes h t) else Ok tt) e lt c.loop-number.invariant.tested
-    (if_true (is_seen h d w n) (tested (packets_at bytes h n)) fine seen ∙ tested_err (packets_at bytes h n) e is)))
+    (λ is. subst (λ (s : CodestreamSource). seen_packets_tested s.bytes s.headers d w (tile_count s.headers.siz) ≡ Err e) c.source.view_is
+    (each_fails (tile_count h.siz) n (λ t. if is_seen h d w t then tested (packets_at bytes h t) else Ok tt) e lt c.loop-number.invariant.tested
+    (if_true (is_seen h d w n) (tested (packets_at bytes h n)) fine seen ∙ tested_err (packets_at bytes h n) e is))))
 
 pub loop-number-preserved : goal.loop-number-preserved
 loop-number-preserved c =
-    let bytes = c.args.bytes.now in
-    let h = c.args.headers.now in
+    let bytes = c.source.inside.bytes.now in
+    let h = c.source.inside.headers.now in
     let d = c.args.reduce in
     let w = c.args.window.now in
     let n = c.loop-number.number in
@@ -57,12 +59,14 @@ loop-number-preserved c =
 
 pub returns-clause-exact : goal.returns-clause-exact
 returns-clause-exact c =
-    let h = c.args.headers.now in
+    let h = c.source.inside.headers.now in
     let all : c.loop-number.number ≡ tile_count h.siz = omega (arith, c.loop-number-test.false, c.loop-number.auto.number-end, c.loop-number.invariant.end_is) in
-    ap (seen_packets_tested c.args.bytes.now h c.args.reduce c.args.window.now) (sym all) ∙ c.loop-number.invariant.tested
+    subst (λ (s : CodestreamSource). seen_packets_tested s.bytes s.headers c.args.reduce c.args.window.now (tile_count s.headers.siz) ≡ fine) c.source.view_is
+    (ap (seen_packets_tested c.source.inside.bytes.now h c.args.reduce c.args.window.now) (sym all) ∙ c.loop-number.invariant.tested)
 
 pub returns-clause-read : goal.returns-clause-read
 returns-clause-read c =
-    let h = c.args.headers.now in
+    let h = c.source.inside.headers.now in
     let all : c.loop-number.number ≡ tile_count h.siz = omega (arith, c.loop-number-test.false, c.loop-number.auto.number-end, c.loop-number.invariant.end_is) in
-    subst (λ n. AreSeen c.args.bytes.now h c.args.reduce c.args.window.now n c.loop-number.all.items) all c.loop-number.invariant.read
+    subst (λ (s : CodestreamSource). AreSeen s.bytes s.headers c.args.reduce c.args.window.now (tile_count s.headers.siz) c.loop-number.all.items) c.source.view_is
+    (subst (λ n. AreSeen c.source.inside.bytes.now h c.args.reduce c.args.window.now n c.loop-number.all.items) all c.loop-number.invariant.read)

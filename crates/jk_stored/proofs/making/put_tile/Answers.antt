@@ -30,10 +30,10 @@ returns-clause-put g c =
       λ code keeping long held. (
         c.in_ok-entries.entries.items,
         (λ i. entries_in code (sym shape i) (sym cod i).sop (sym cod i).eph c.args.part) ∙ c.in_ok-entries.ensures.read code keeping long held,
-        (let top : c.meet.result ≡ meet w (reduced_area (shape_in h.siz (tile_in h.tiles c.args.tile) c.args.tile).rect d) =
-            c.meet.ensures ∙ ap (meet w) (c.reduced.ensures.value ∙ ap (λ (s : TileShape). reduced_area s.rect d) shape) in
-            let names : c.deref-3.result.now ≡ order (shape_in h.siz (tile_in h.tiles c.args.tile) c.args.tile) = c.deref-3.ensures.value ∙ c.in_ok-names.ensures.value ∙ ap order shape in
-            let entries : c.deref-4.result.now ≡ c.in_ok-entries.entries.items = c.deref-4.ensures.value in
+        (let top : c.meet-top.result ≡ meet w (reduced_area (shape_in h.siz (tile_in h.tiles c.args.tile) c.args.tile).rect d) =
+            c.meet-top.ensures ∙ ap (meet w) (c.reduced.ensures.value ∙ ap (λ (s : TileShape). reduced_area s.rect d) shape) in
+            let names : c.deref-4.result.now ≡ order (shape_in h.siz (tile_in h.tiles c.args.tile) c.args.tile) = c.deref-4.ensures.value ∙ c.in_ok-names.ensures.value ∙ ap order shape in
+            let entries : c.deref-5.result.now ≡ c.in_ok-entries.entries.items = c.deref-5.ensures.value in
             put.3 code keeping (c.in_ok-entries.ensures.held code keeping held)
             ∙ (λ i. flat_map (packet_of code (wanted (shape i) (top i) d (shape i).layers) (cod i).eph) (zip (names i) (entries i)))),
       ),

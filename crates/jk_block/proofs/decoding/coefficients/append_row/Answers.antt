@@ -7,7 +7,7 @@ use Rattle.jk_block.proofs.decoding.Eights.{row_more, value_in_row}
 use Rattle.jk_block.proofs.decoding.coefficients.append_row.Goals as goal
 
 pub loop-word-preserved : goal.loop-word-preserved
-loop-word-preserved g c =
+loop-word-preserved c =
     let k = c.args.block_state.now in
     let y = c.args.y in
     let f : ℕ → ℤ = λ x. with_sign ((draft_of k).negative x y) ((draft_of k).magnitude x y) in

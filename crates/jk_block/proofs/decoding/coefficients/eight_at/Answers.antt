@@ -1,29 +1,28 @@
 use Rattle.std.proofs.Common.{◌+◌, ◌/◌, arith}
 use Rattle.jk_block.proofs.WordDrawing.{word_room}
 use Rattle.jk_block.proofs.decoding.Eights.{byte_places, sign_places}
-use Rattle.jk_block.proofs.Sizes.{block_state_fits}
 use Rattle.jk_block.proofs.decoding.coefficients.eight_at.Goals as goal
 
 pub row_bytes-requires : goal.row_bytes-requires
-row_bytes-requires g c =
+row_bytes-requires c =
     let r = word_room c.args.block_state.now.shape (c.args.word + 1) (c.args.y / 4 + 1) (omega arith) (omega arith) in
     let e = c.word_place-at.ensures.place in
-    (block_state_fits g.row.N c.args.block_state.now.small, (omega (arith, r, e), (omega arith, omega arith)))
+    record { at = omega (arith, r, e); k = omega arith; first = omega arith }
 
 pub row_bytes-requires-2 : goal.row_bytes-requires-2
-row_bytes-requires-2 g c =
+row_bytes-requires-2 c =
     let r = word_room c.args.block_state.now.shape (c.args.word + 1) (c.args.y / 4 + 1) (omega arith) (omega arith) in
     let e = c.word_place-at.ensures.place in
-    (block_state_fits g.row.N c.args.block_state.now.small, (omega (arith, r, e), (omega arith, omega arith)))
+    record { at = omega (arith, r, e); k = omega arith; first = omega arith }
 
 pub row_bytes-requires-3 : goal.row_bytes-requires-3
-row_bytes-requires-3 g c =
+row_bytes-requires-3 c =
     let r = word_room c.args.block_state.now.shape (c.args.word + 1) (c.args.y / 4 + 1) (omega arith) (omega arith) in
     let e = c.word_place-at.ensures.place in
-    (block_state_fits g.row.N c.args.block_state.now.small, (omega (arith, r, e), (omega arith, omega arith)))
+    record { at = omega (arith, r, e); k = omega arith; first = omega arith }
 
 pub returns : goal.returns
-returns g c =
+returns c =
     let k = c.args.block_state.now in
     let at = c.word_place-at.result in
     record {

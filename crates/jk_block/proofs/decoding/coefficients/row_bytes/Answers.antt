@@ -5,16 +5,16 @@ use Rattle.jk_block.proofs.decoding.Eights.{plane_item, bits_none, bits_more, bi
 use Rattle.jk_block.proofs.decoding.coefficients.row_bytes.Goals as goal
 
 pub loop-i-init : goal.loop-i-init
-loop-i-init g c = bits_none c.args.block_state.now c.args.at c.args.k (c.args.first + c.min-count.result)
+loop-i-init c = bits_none c.args.block_state.now c.args.at c.args.k (c.args.first + c.min-count.result)
 
 pub index-requires : goal.index-requires
-index-requires g c =
+index-requires c =
     let plane = c.args.first + (c.min-count.result - 1 - c.loop-i.i) in
     let room = plane_item c.args.block_state.now c.args.at plane c.words_of-room.result (plane * c.words_of-room.result + c.args.at) c.words_of-room.ensures.is refl c.requires.at (omega arith) in
     omega (arith, room)
 
 pub loop-i-preserved : goal.loop-i-preserved
-loop-i-preserved g c =
+loop-i-preserved c =
     let k = c.args.block_state.now in
     let top = c.args.first + c.min-count.result in
     let q = (c.args.first + (c.min-count.result - 1 - c.loop-i.i)) * c.words_of-room.result + c.args.at in
@@ -26,4 +26,4 @@ loop-i-preserved g c =
     bits_more k c.args.at c.args.k top c.loop-i.i c.loop-i.bytes c.index.result.now c.row_bits.result (omega arith) (omega arith) (read ∙ ap (λ q. get_or k.bits.items q 0) same) c.row_bits.ensures c.loop-i.invariant
 
 pub returns : goal.returns
-returns g c = bits_all c.args.block_state.now c.args.at c.args.k c.args.first c.min-count.result c.loop-i.i c.loop-i.bytes (omega arith) (omega arith) c.loop-i.invariant
+returns c = bits_all c.args.block_state.now c.args.at c.args.k c.args.first c.min-count.result c.loop-i.i c.loop-i.bytes (omega arith) (omega arith) c.loop-i.invariant

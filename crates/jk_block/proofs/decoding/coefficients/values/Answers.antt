@@ -6,7 +6,7 @@ use Rattle.jk_block.proofs.decoding.Listing.{rows_of, row_of, rows_more, rows_al
 use Rattle.jk_block.proofs.decoding.coefficients.values.Goals as goal
 
 pub loop-y-preserved : goal.loop-y-preserved
-loop-y-preserved g c =
+loop-y-preserved c =
     let k = c.args.block_state.now in
     let q : Field ℤ = λ x y. with_sign ((draft_of k).negative x y) ((draft_of k).magnitude x y) in
     let i = c.loop-y.invariant in (
@@ -16,7 +16,7 @@ loop-y-preserved g c =
     )
 
 pub returns-clause-values : goal.returns-clause-values
-returns-clause-values g c = λ coder.
+returns-clause-values c = λ coder.
     let k = c.args.block_state.now in
     let q : Field ℤ = λ x y. with_sign ((draft_of k).negative x y) ((draft_of k).magnitude x y) in
     c.loop-y.invariant.0 ∙ ap (λ n. rows_of q k.shape.width n) (let e : c.loop-y.y ≡ k.shape.height = omega arith in e) ∙ rows_all k.shape q

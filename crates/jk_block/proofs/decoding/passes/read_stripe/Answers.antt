@@ -8,10 +8,10 @@ use Rattle.jk_block.proofs.decoding.Taking.{taken_none, taken_more, taken_fault,
 use Rattle.jk_block.proofs.decoding.passes.read_stripe.Goals as goal
 
 pub loop-word-init : goal.loop-word-init
-loop-word-init g c = (taken_none (λ bytes s j z. word_pass bytes s c.args.plane (number_of c.args.pass) j c.args.stripe z) (draft_of c.args.block_state.now) c.args.decoder.now, c.requires.fresh, refl)
+loop-word-init c = (taken_none (λ bytes s j z. word_pass bytes s c.args.plane (number_of c.args.pass) j c.args.stripe z) (draft_of c.args.block_state.now) c.args.decoder.now, c.requires.fresh, refl)
 
 pub loop-word-preserved : goal.loop-word-preserved
-loop-word-preserved g c = (
+loop-word-preserved c = (
   taken_more (λ bytes s j z. word_pass bytes s c.args.plane (number_of c.args.pass) j c.args.stripe z) c.loop-word.word (draft_of c.args.block_state.now) (draft_of c.loop-word.block_state) (draft_of c.read_word.new.block_state) c.args.decoder.now c.loop-word.decoder c.read_word.new.decoder c.loop-word.invariant.0
       c.in_ok-read_word.ensures.shape c.in_ok-read_word.ensures.bytes c.in_ok-read_word.ensures.takes,
   c.in_ok-read_word.ensures.fresh,
@@ -19,7 +19,7 @@ loop-word-preserved g c = (
 )
 
 pub returns-in_err-read_word-clause-takes : goal.returns-in_err-read_word-clause-takes
-returns-in_err-read_word-clause-takes g c =
+returns-in_err-read_word-clause-takes c =
     let p = err_from_is_err_and c.from_residual.result c.from_residual.ensures.1 in
     let k = draft_of c.args.block_state.now in
     let v = c.args.decoder.now in
@@ -30,7 +30,7 @@ returns-in_err-read_word-clause-takes g c =
     c.in_err-read_word.ensures.takes coder st)
 
 pub returns-clause-takes : goal.returns-clause-takes
-returns-clause-takes g c = λ coder st.
+returns-clause-takes c = λ coder st.
     let k = draft_of c.args.block_state.now in
     let v = c.args.decoder.now in
     let n = number_of c.args.pass in

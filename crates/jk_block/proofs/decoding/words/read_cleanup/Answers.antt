@@ -14,27 +14,26 @@ use Rattle.jk_block.specs.decoding.BlockStates.{Draft, Advanced, draft_of, signi
 use Rattle.jk_block.specs.decoding.Sights.{Sees, new_in, significant_at}
 use Rattle.jk_block.proofs.decoding.ReadSoFar.{going_fault, going_all}
 use Rattle.jk_block.proofs.decoding.Cleaning.{RunTaken, cleaning_none, cleaning_idle, next_left, next_run, cleaning_zero, cleaning_one, cleaning_run, cleaning_run_one, cleaning_run_fault, cleaning_all, left_fault, sooner_left, sooner_run}
-use Rattle.jk_block.proofs.Sizes.{block_state_fits}
 use Rattle.jk_block.proofs.decoding.words.read_cleanup.Goals as goal
 
 pub returns-then-left-still-eq0-clause-takes : goal.returns-then-left-still-eq0-clause-takes
-returns-then-left-still-eq0-clause-takes g c =
+returns-then-left-still-eq0-clause-takes c =
     let k = c.args.block_state.now in
     let at = c.args.spot in
     let v = c.args.decoder.now in
-    let around = c.seen_among-significant.ensures (significant_in (draft_of k)) k.known_significant in
+    let around = c.significant_around-significant.ensures in
     going_all 2 at (draft_of k) (draft_of k) v v
-    (cleaning_idle at (draft_of k) v c.seen_among-significant.result c.uncoded-left.result c.still_columns-still.result around c.uncoded-left.ensures (c.still_columns-still.ensures (significant_in (draft_of k)) around) (omega arith))
+    (cleaning_idle at (draft_of k) v c.significant_around-significant.result c.uncoded-left.result c.still_columns-still.result around c.uncoded-left.ensures (c.still_columns-still.ensures (significant_in (draft_of k)) around) (omega arith))
 
 pub places-init : goal.places-init
-places-init g c =
+places-init c =
     let k = c.args.block_state.now in
-    let around = c.seen_among-significant.ensures (significant_in (draft_of k)) k.known_significant in
+    let around = c.significant_around-significant.ensures in
     cleaning_none c.args.spot (draft_of k) c.args.decoder.now _ c.uncoded-left.result c.still_columns-still.result
-    record { significant = around; negative = c.seen_among-negative.ensures (draft_of k).negative k.signs } c.uncoded-left.ensures (c.still_columns-still.ensures (significant_in (draft_of k)) around)
+    record { significant = around; negative = c.negative_around-negative.ensures } c.uncoded-left.ensures (c.still_columns-still.ensures (significant_in (draft_of k)) around)
 
 pub overflow_shr-still : goal.overflow_shr-still
-overflow_shr-still g c =
+overflow_shr-still c =
     let l = c.places in
     (lowest (bit_or l.left l.still) (omega arith) (or_lt 64 l.left l.still (omega arith) (omega arith))).0
 
@@ -52,7 +51,7 @@ no_row : (a b : ℕ) → b < a + 1 → nat_lt a b ≡ false
 no_row a b h = grind (arith, nat_tests)
 
 pub read_run-requires-clause-within : goal.read_run-requires-clause-within
-read_run-requires-clause-within g c =
+read_run-requires-clause-within c =
     let l = c.places in
     let k = draft_of c.args.block_state.now in
     let at = c.args.spot in
@@ -62,7 +61,7 @@ read_run-requires-clause-within g c =
     (next_run at k v l.decoder l.sight l.left l.still l.invariant (omega arith) low (bit_true l.still z c.if-still-k-eq1.true)).place.within
 
 pub read_run-requires-clause-first : goal.read_run-requires-clause-first
-read_run-requires-clause-first g c =
+read_run-requires-clause-first c =
     let l = c.places in
     let k = draft_of c.args.block_state.now in
     let at = c.args.spot in
@@ -72,7 +71,7 @@ read_run-requires-clause-first g c =
     (next_run at k v l.decoder l.sight l.left l.still l.invariant (omega arith) low (bit_true l.still z c.if-still-k-eq1.true)).first
 
 pub returns-in_err-row-clause-takes : goal.returns-in_err-row-clause-takes
-returns-in_err-row-clause-takes g c =
+returns-in_err-row-clause-takes c =
     let l = c.places in
     let k = draft_of c.args.block_state.now in
     let at = c.args.spot in
@@ -86,7 +85,7 @@ returns-in_err-row-clause-takes g c =
     (c.in_err-row.ensures.takes at d next.place next.rows l.invariant.held.sees))
 
 pub overflow_shl-left : goal.overflow_shl-left
-overflow_shl-left g c =
+overflow_shl-left c =
     let l = c.places in
     let k = draft_of c.args.block_state.now in
     let at = c.args.spot in
@@ -98,7 +97,7 @@ overflow_shl-left g c =
     room z c.in_ok-row.row next.place.within next.first (omega (arith, few))
 
 pub quiet_behind-still-requires : goal.quiet_behind-still-requires
-quiet_behind-still-requires g c =
+quiet_behind-still-requires c =
     let l = c.places in
     let k = draft_of c.args.block_state.now in
     let at = c.args.spot in
@@ -110,7 +109,7 @@ quiet_behind-still-requires g c =
     room z c.in_ok-row.row next.place.within next.first (omega (arith, few))
 
 pub places-smaller-then-row-lt4 : goal.places-smaller-then-row-lt4
-places-smaller-then-row-lt4 g c =
+places-smaller-then-row-lt4 c =
     let l = c.places in
     let k = draft_of c.args.block_state.now in
     let at = c.args.spot in
@@ -120,7 +119,7 @@ places-smaller-then-row-lt4 g c =
     sooner_run l.left l.still c.quiet_behind-still.result c.in_ok-row.row (omega arith) low (omega arith) (omega arith) (bit_true l.still z c.if-still-k-eq1.true) c.quiet_behind-still.ensures.fewer
 
 pub places-smaller-else-row-lt4 : goal.places-smaller-else-row-lt4
-places-smaller-else-row-lt4 g c =
+places-smaller-else-row-lt4 c =
     let l = c.places in
     let k = draft_of c.args.block_state.now in
     let at = c.args.spot in
@@ -130,7 +129,7 @@ places-smaller-else-row-lt4 g c =
     sooner_run l.left l.still (bit_and l.still (l.still - 1)) c.in_ok-row.row (omega arith) low (omega arith) (let e = and_le_l l.still (l.still - 1) in omega (arith, e)) (bit_true l.still z c.if-still-k-eq1.true) (λ m h. h)
 
 pub places-preserved-then-row-lt4 : goal.places-preserved-then-row-lt4
-places-preserved-then-row-lt4 g c =
+places-preserved-then-row-lt4 c =
     let l = c.places in
     let k = draft_of c.args.block_state.now in
     let at = c.args.spot in
@@ -148,7 +147,7 @@ places-preserved-then-row-lt4 g c =
     c.quiet_behind-still.ensures.behind c.quiet_behind-still.ensures.fewer
 
 pub places-preserved-else-row-lt4 : goal.places-preserved-else-row-lt4
-places-preserved-else-row-lt4 g c =
+places-preserved-else-row-lt4 c =
     let l = c.places in
     let k = draft_of c.args.block_state.now in
     let at = c.args.spot in
@@ -166,7 +165,7 @@ places-preserved-else-row-lt4 g c =
     (subst (λ (t : Bool). Sees at (cond t (significant_at at (z + f) new d) d) new) is (c.in_ok-row.ensures.sees at d next.place next.rows l.invariant.held.sees))
 
 pub read_new-requires-clause-within : goal.read_new-requires-clause-within
-read_new-requires-clause-within g c =
+read_new-requires-clause-within c =
     let l = c.places in
     let k = draft_of c.args.block_state.now in
     let at = c.args.spot in
@@ -176,7 +175,7 @@ read_new-requires-clause-within g c =
     (next_left at k v l.decoder l.sight l.left l.still l.invariant (omega arith) low (bit_false l.still z c.if-still-k-eq1.false)).place.within
 
 pub read_new-requires-clause-on_row : goal.read_new-requires-clause-on_row
-read_new-requires-clause-on_row g c =
+read_new-requires-clause-on_row c =
     let l = c.places in
     let k = draft_of c.args.block_state.now in
     let at = c.args.spot in
@@ -186,7 +185,7 @@ read_new-requires-clause-on_row g c =
     (next_left at k v l.decoder l.sight l.left l.still l.invariant (omega arith) low (bit_false l.still z c.if-still-k-eq1.false)).place.on_row
 
 pub returns-in_err-bit-clause-takes : goal.returns-in_err-bit-clause-takes
-returns-in_err-bit-clause-takes g c =
+returns-in_err-bit-clause-takes c =
     let l = c.places in
     let k = draft_of c.args.block_state.now in
     let at = c.args.spot in
@@ -200,7 +199,7 @@ returns-in_err-bit-clause-takes g c =
     (left_fault at d l.decoder z c.in_err-bit.field-0.0 next.place next.due (c.in_err-bit.ensures.takes at d (ap (λ (s : BlockShape). s.orientation) l.invariant.held.shape) next.place l.invariant.held.sees)))
 
 pub overflow_sub-left : goal.overflow_sub-left
-overflow_sub-left g c =
+overflow_sub-left c =
     let l = c.places in
     let k = draft_of c.args.block_state.now in
     let at = c.args.spot in
@@ -210,7 +209,7 @@ overflow_sub-left g c =
     some_bit l.left z (next_left at k v l.decoder l.sight l.left l.still l.invariant (omega arith) low (bit_false l.still z c.if-still-k-eq1.false)).set
 
 pub quiet_behind-still-requires-then-bit : goal.quiet_behind-still-requires-then-bit
-quiet_behind-still-requires-then-bit g c =
+quiet_behind-still-requires-then-bit c =
     let l = c.places in
     let k = draft_of c.args.block_state.now in
     let at = c.args.spot in
@@ -220,7 +219,7 @@ quiet_behind-still-requires-then-bit g c =
     (lowest (bit_or l.left l.still) (omega arith) low).0
 
 pub places-smaller-then-bit : goal.places-smaller-then-bit
-places-smaller-then-bit g c =
+places-smaller-then-bit c =
     let l = c.places in
     let k = draft_of c.args.block_state.now in
     let at = c.args.spot in
@@ -230,7 +229,7 @@ places-smaller-then-bit g c =
     sooner_left at k v l.decoder l.sight l.left l.still c.quiet_behind-still-then-bit.result l.invariant (omega arith) low (omega arith) (omega arith) (bit_false l.still z c.if-still-k-eq1.false) c.quiet_behind-still-then-bit.ensures.fewer
 
 pub places-smaller : goal.places-smaller
-places-smaller g c =
+places-smaller c =
     let l = c.places in
     let k = draft_of c.args.block_state.now in
     let at = c.args.spot in
@@ -240,7 +239,7 @@ places-smaller g c =
     sooner_left at k v l.decoder l.sight l.left l.still l.still l.invariant (omega arith) low (omega arith) (omega arith) (bit_false l.still z c.if-still-k-eq1.false) (λ m h. h)
 
 pub places-preserved-then-bit : goal.places-preserved-then-bit
-places-preserved-then-bit g c =
+places-preserved-then-bit c =
     let l = c.places in
     let k = draft_of c.args.block_state.now in
     let at = c.args.spot in
@@ -257,7 +256,7 @@ places-preserved-then-bit g c =
     c.quiet_behind-still-then-bit.ensures.behind c.quiet_behind-still-then-bit.ensures.fewer
 
 pub places-preserved : goal.places-preserved
-places-preserved g c =
+places-preserved c =
     let l = c.places in
     let k = draft_of c.args.block_state.now in
     let at = c.args.spot in
@@ -273,7 +272,7 @@ places-preserved g c =
     (subst (λ (b : Bool). Sees at (new_in at z b new d) new) c.if-bit.false (c.in_ok-bit.ensures.sees at d next.place l.invariant.held.sees))
 
 pub returns-clause-shape : goal.returns-clause-shape
-returns-clause-shape g c =
+returns-clause-shape c =
     let l = c.places in
     ap (λ (d : Draft). d.shape) (c.light_all.ensures.known_significant l.invariant.draft l.invariant.held) ∙ l.invariant.held.shape
 
@@ -282,7 +281,7 @@ with_visited d f = record d { visited = f }
 
 pub returns-clause-takes : goal.returns-clause-takes
 unfolding with_visited
-returns-clause-takes g c = λ coder st.
+returns-clause-takes c = λ coder st.
     let l = c.places in
     let k = draft_of c.args.block_state.now in
     let at = c.args.spot in
@@ -293,5 +292,9 @@ returns-clause-takes g c = λ coder st.
     (going_all 2 at k d v l.decoder (cleaning_all at k v l.decoder l.sight l.left l.still l.invariant (omega arith)) coder st)
 
 pub light_all-requires : goal.light_all-requires
-light_all-requires g c =
-    (block_state_fits g.row.N c.args.block_state.now.small, (c.requires.spot, (c.requires.plane, (c.inside-limits.ensures, record { draft = c.places.invariant.draft; held = c.places.invariant.held }))))
+light_all-requires c = record {
+  spot = c.requires.spot;
+  plane = c.requires.plane;
+  limits = c.inside-limits.ensures;
+  held = record { draft = c.places.invariant.draft; held = c.places.invariant.held };
+}

@@ -6,7 +6,7 @@ use Rattle.jk_block.proofs.decoding.Cleaning.{Cleaning}
 use Rattle.jk_block.proofs.decoding.words.read_cleanup.Given as goal
 
 abbrev pub invariant-places : goal.invariant-places
-invariant-places g l = Cleaning l.spot (draft_of l.block_state) l.fn.decoder l.decoder l.sight l.left l.still
+invariant-places l = Cleaning l.spot (draft_of l.block_state) l.fn.decoder l.decoder l.sight l.left l.still
 
 abbrev pub decreases-places : goal.decreases-places
-decreases-places g l = 64 - trailing_zeros w64 (bit_or l.left l.still)
+decreases-places l = 64 - trailing_zeros w64 (bit_or l.left l.still)

@@ -7,7 +7,7 @@ use Rattle.jk_block.proofs.encoding.Slicing.{slice_shows, row_room, sliced_more}
 use Rattle.jk_block.proofs.encoding.slices.slice_row.Goals as goal
 
 pub loop-word-preserved : goal.loop-word-preserved
-loop-word-preserved g c =
+loop-word-preserved c =
     let s = c.args.shape in
     let vs = c.args.values.now in
     let l = c.loop-word in
@@ -25,4 +25,4 @@ loop-word-preserved g c =
     )
 
 pub bounds-slices-row : goal.bounds-slices-row
-bounds-slices-row g c = let room = row_room c.args.shape c.loop-word.word c.args.row c.words_across-across.result c.words_across-across.ensures (omega arith) c.requires.row in omega (arith, room)
+bounds-slices-row c = let room = row_room c.args.shape c.loop-word.word c.args.row c.words_across-across.result c.words_across-across.ensures (omega arith) c.requires.row in omega (arith, room)

@@ -5,4 +5,4 @@ use Rattle.jk_block.specs.encoding.Slices.{IsSlicedTo}
 use Rattle.jk_block.proofs.encoding.slices.slice_row.Given as goal
 
 abbrev pub invariant-loop-word : goal.invariant-loop-word
-invariant-loop-word g l = IsSlicedTo l.shape l.shift (value_in l.shape l.values) (l.row * across l.shape + l.word) l.slices × (length l.slices ≡ length l.fn.slices)
+invariant-loop-word l = IsSlicedTo l.shape l.shift (value_in l.shape l.values) (l.row * across l.shape + l.word) l.slices × (length l.slices ≡ length l.fn.slices)

@@ -15,18 +15,18 @@ gate true l s = refl
 gate false l s = refl
 
 pub returns : goal.returns
-returns g c = λ t flagged m within.
+returns c = λ t flagged m within.
     let v = c.args.block.now in
     let s = v.shape in
     let at = c.args.spot in
     let p = c.word_place-place.result in
-    let sig = get_or c.args.flags.now.significant p 0 in
-    let vis = get_or c.args.flags.now.visited p 0 in
+    let sig = get_or c.args.flags.now.significant.now p 0 in
+    let vis = get_or c.args.flags.now.visited.now p 0 in
     let x = column at.word m in
     let y = row at.stripe m in
     let lim : vis < 2 ^ 64 = omega arith in
     on_and sig (bit_not w64 vis) m ∙ ap (λ b. on sig m && b) (on_not w64 vis m lim within)
-    ∙ ap (λ p. on (get_or c.args.flags.now.significant p 0) m && not (on (get_or c.args.flags.now.visited p 0) m)) c.word_place-place.ensures.place
-    ∙ ap (λ b. b && not (on (get_or c.args.flags.now.visited (word_at s (at.word + 1) (at.stripe + 1)) 0) m)) (drawn_bit s (significant_at v t) c.args.flags.now.significant at.word at.stripe m flagged.known_significant c.requires.spot.word c.requires.spot.stripe within)
-    ∙ ap (λ b. (of_rows (m % 8) && significant_at v t x y) && not b) (drawn_bit s (spread_at v t) c.args.flags.now.visited at.word at.stripe m flagged.coded c.requires.spot.word c.requires.spot.stripe within)
+    ∙ ap (λ p. on (get_or c.args.flags.now.significant.now p 0) m && not (on (get_or c.args.flags.now.visited.now p 0) m)) c.word_place-place.ensures.place
+    ∙ ap (λ b. b && not (on (get_or c.args.flags.now.visited.now (word_at s (at.word + 1) (at.stripe + 1)) 0) m)) (drawn_bit s (significant_at v t) c.args.flags.now.significant.now at.word at.stripe m flagged.known_significant c.requires.spot.word c.requires.spot.stripe within)
+    ∙ ap (λ b. (of_rows (m % 8) && significant_at v t x y) && not b) (drawn_bit s (spread_at v t) c.args.flags.now.visited.now at.word at.stripe m flagged.coded c.requires.spot.word c.requires.spot.stripe within)
     ∙ gate (of_rows (m % 8)) (significant_at v t x y) (spread_at v t x y)

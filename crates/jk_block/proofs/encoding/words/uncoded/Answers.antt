@@ -19,20 +19,20 @@ gate true i false s = refl
 gate false i l s = refl
 
 pub returns : goal.returns
-returns g c = λ t flagged m within.
+returns c = λ t flagged m within.
     let v = c.args.block.now in
     let s = v.shape in
     let at = c.args.spot in
     let p = c.word_place-place.result in
-    let sig = get_or c.args.flags.now.significant p 0 in
-    let vis = get_or c.args.flags.now.visited p 0 in
+    let sig = get_or c.args.flags.now.significant.now p 0 in
+    let vis = get_or c.args.flags.now.visited.now p 0 in
     let x = column at.word m in
     let y = row at.stripe m in
     let lim : bit_or sig vis < 2 ^ 64 = or_lt 64 sig vis (omega arith) (omega arith) in
     let limits = c.args.limits in
     on_and limits (bit_not w64 (bit_or sig vis)) m ∙ ap (λ b. on limits m && b) (on_not w64 (bit_or sig vis) m lim within ∙ ap not (on_or sig vis m))
     ∙ ap (λ b. b && not (on sig m || on vis m)) (limit_bit s at.word at.stripe m limits c.requires.limits within)
-    ∙ ap (λ p. (of_rows (m % 8) && is_inside s x y) && not (on (get_or c.args.flags.now.significant p 0) m || on (get_or c.args.flags.now.visited p 0) m)) c.word_place-place.ensures.place
-    ∙ ap (λ b. (of_rows (m % 8) && is_inside s x y) && not (b || on (get_or c.args.flags.now.visited (word_at s (at.word + 1) (at.stripe + 1)) 0) m)) (drawn_bit s (significant_at v t) c.args.flags.now.significant at.word at.stripe m flagged.known_significant c.requires.spot.word c.requires.spot.stripe within)
-    ∙ ap (λ b. (of_rows (m % 8) && is_inside s x y) && not ((of_rows (m % 8) && significant_at v t x y) || b)) (drawn_bit s (spread_at v t) c.args.flags.now.visited at.word at.stripe m flagged.coded c.requires.spot.word c.requires.spot.stripe within)
+    ∙ ap (λ p. (of_rows (m % 8) && is_inside s x y) && not (on (get_or c.args.flags.now.significant.now p 0) m || on (get_or c.args.flags.now.visited.now p 0) m)) c.word_place-place.ensures.place
+    ∙ ap (λ b. (of_rows (m % 8) && is_inside s x y) && not (b || on (get_or c.args.flags.now.visited.now (word_at s (at.word + 1) (at.stripe + 1)) 0) m)) (drawn_bit s (significant_at v t) c.args.flags.now.significant.now at.word at.stripe m flagged.known_significant c.requires.spot.word c.requires.spot.stripe within)
+    ∙ ap (λ b. (of_rows (m % 8) && is_inside s x y) && not ((of_rows (m % 8) && significant_at v t x y) || b)) (drawn_bit s (spread_at v t) c.args.flags.now.visited.now at.word at.stripe m flagged.coded c.requires.spot.word c.requires.spot.stripe within)
     ∙ gate (of_rows (m % 8)) (is_inside s x y) (significant_at v t x y) (spread_at v t x y)

@@ -1,4 +1,4 @@
-use Rattle.std.proofs.Common.{ℕ, false, replicate, ap, sym, subst, ◌*◌, ◌∙◌, List, Bool, length}
+use Rattle.std.proofs.Common.{ℕ, false, ap, sym, subst, ◌*◌, ◌∙◌, List, Bool, length}
 use Rattle.std.proofs.lemmas.List.{length-replicate}
 use Rattle.jk_model.specs.Decisions.{initial}
 use Rattle.jk_scan.specs.Neighbours.{Field}
@@ -9,26 +9,32 @@ use Rattle.jk_block.proofs.Drawing.{progress_same, magnitude_none, flagged_none,
 use Rattle.jk_block.proofs.decoding.block_state.BlockState.new.Goals as goal
 
 pub returns-clause-blank : goal.returns-clause-blank
-returns-clause-blank g c =
+returns-clause-blank c =
     let s = c.args.shape in
     let n = c.args.planes in
-    progress_same (magnitude_of s n c.args.bits.items) (λ _ _. 0) (flagged s c.unmarked-2.result) (λ _ _. false) (flagged s c.unmarked-3.result) (λ _ _. false) initial
+    let negative = c.args.negative.now in
+    let visited = c.args.visited.now in
+    progress_same (magnitude_of s n c.args.bits.items) (λ _ _. 0) (flagged s negative) (λ _ _. false) (flagged s visited) (λ _ _. false) initial
     (ap (magnitude_of s n) c.requires.bits ∙ magnitude_none s n (n * words_of s))
-    (ap (flagged s) c.unmarked-2.ensures ∙ flagged_none s g.row.N)
-    (ap (flagged s) c.unmarked-3.ensures ∙ flagged_none s g.row.N)
+    (ap (flagged s) c.requires.negative.1 ∙ flagged_none s (length negative))
+    (ap (flagged s) c.requires.visited.1 ∙ flagged_none s (length visited))
 
 pub invariant_of-result : goal.invariant_of-result
-invariant_of-result g c =
+invariant_of-result c =
     let s = c.args.shape in
     let n = c.args.planes in
     let ms = magnitude_of s n c.args.bits.items in
+    let significant = c.args.significant.now in
+    let negative = c.args.negative.now in
     record {
       sized = c.requires.sized;
-      wide = c.requires.wide;
-      small = c.requires.small;
+      significant_room = c.requires.significant.0;
+      negative_room = c.requires.negative.0;
+      visited_room = c.requires.visited.0;
       few = c.requires.few;
       room = ap (λ (ws : List ℕ). length ws) c.requires.bits ∙ length-replicate (n * words_of s) 0;
-      known_significant = subst (λ (ws : List ℕ). IsDrawn s (significant_of s ms) ws) (sym c.unmarked.ensures)
-          (drawn_none s (significant_of s ms) g.row.N (λ x y. dark s ms x y (ap (magnitude_of s n) c.requires.bits ∙ magnitude_none s n (n * words_of s))));
-      signs = subst (λ (ws : List ℕ). IsDrawn s (flagged s ws) ws) (sym c.unmarked-2.ensures) (drawn_none s (flagged s (replicate g.row.N 0)) g.row.N (λ x y. ap (λ (f : Field Bool). f x y) (flagged_none s g.row.N)));
+      known_significant = subst (λ (ws : List ℕ). IsDrawn s (significant_of s ms) ws) (sym c.requires.significant.1)
+          (drawn_none s (significant_of s ms) (length significant) (λ x y. dark s ms x y (ap (magnitude_of s n) c.requires.bits ∙ magnitude_none s n (n * words_of s))));
+      signs = let none = ap (flagged s) c.requires.negative.1 ∙ flagged_none s (length negative) in
+          subst (λ (ws : List ℕ). IsDrawn s (flagged s negative) ws) (sym c.requires.negative.1) (drawn_none s (flagged s negative) (length negative) (λ x y. ap (λ (f : Field Bool). f x y) none));
     }

@@ -11,7 +11,7 @@ use Rattle.jk_block.proofs.decoding.Writing.{Puts, plane_room, refined_magnitude
 use Rattle.jk_block.proofs.decoding.block_state.BlockState.refine_all.Goals as goal
 
 pub index-requires : goal.index-requires
-index-requires g c =
+index-requires c =
     let k = c.args.self.now in
     let at = c.args.spot in
     let p = c.word_place-at.result in
@@ -21,7 +21,7 @@ index-requires g c =
     omega (arith, room)
 
 pub index_mut-requires : goal.index_mut-requires
-index_mut-requires g c =
+index_mut-requires c =
     let k = c.args.self.now in
     let at = c.args.spot in
     let p = c.word_place-at.result in
@@ -31,7 +31,7 @@ index_mut-requires g c =
     omega (arith, room)
 
 pub invariant_of-self : goal.invariant_of-self
-invariant_of-self g c =
+invariant_of-self c =
     let k = c.args.self.now in
     let s = k.shape in
     let at = c.args.spot in
@@ -44,17 +44,18 @@ invariant_of-self g c =
     let read : c.index.result.now ≡ get_or k.bits.items q 0 = get_or_read_under k.bits.items q (length k.bits.items) c.index.result.now 0 c.index.ensures room refl in
     record {
       sized = k.sized;
-      wide = k.wide;
-      small = k.small;
+      significant_room = k.significant_room;
+      negative_room = k.negative_room;
+      visited_room = k.visited_room;
       few = k.few;
       room = length-set k.bits.items q (bit_or (bit_and c.index.result.now (bit_not w64 places)) ones) ∙ k.room;
-      known_significant = subst (λ (old : ℕ). IsDrawn s (significant_of s (magnitude_of s k.planes (set k.bits.items q (bit_or (bit_and old (bit_not w64 places)) ones)))) k.significant) (sym read)
+      known_significant = subst (λ (old : ℕ). IsDrawn s (significant_of s (magnitude_of s k.planes (set k.bits.items q (bit_or (bit_and old (bit_not w64 places)) ones)))) k.significant.now) (sym read)
           (refined_drawn at k places ones p q a (omega arith) c.requires.refined);
       signs = k.signs;
     }
 
 pub returns-clause-refined : goal.returns-clause-refined
-returns-clause-refined g c =
+returns-clause-refined c =
     let k = c.args.self.now in
     let s = k.shape in
     let at = c.args.spot in
@@ -66,5 +67,5 @@ returns-clause-refined g c =
     let room = plane_room at k p q a in
     let read : c.index.result.now ≡ get_or k.bits.items q 0 = get_or_read_under k.bits.items q (length k.bits.items) c.index.result.now 0 c.index.ensures room refl in
     draft_same s s (magnitude_of s k.planes (set k.bits.items q (bit_or (bit_and c.index.result.now (bit_not w64 places)) ones))) (refined_in at places ones (draft_of k)).magnitude
-    (flagged s k.negative) (flagged s k.negative) (flagged s k.visited) (flagged s k.visited) refl
+    (flagged s k.negative.now) (flagged s k.negative.now) (flagged s k.visited.now) (flagged s k.visited.now) refl
     (ap (λ (old : ℕ). magnitude_of s k.planes (set k.bits.items q (bit_or (bit_and old (bit_not w64 places)) ones))) read ∙ refined_magnitude at k places ones p q a (omega arith) c.requires.refined) refl refl

@@ -3,7 +3,7 @@ use Rattle.jk_block.proofs.WordDrawing.{word_significant}
 use Rattle.jk_block.proofs.encoding.flags.Flags.visit_all.Goals as goal
 
 pub returns-clause-visited : goal.returns-clause-visited
-returns-clause-visited g c = λ f drawn.
+returns-clause-visited c = λ f drawn.
     let s = c.args.shape in
     let at = c.args.spot in
-    word_significant s f c.args.self.now.visited at.word at.stripe c.args.places c.word_place-at.result c.requires.sized (omega arith) c.requires.spot.word c.requires.spot.stripe c.word_place-at.ensures.place c.requires.rows drawn
+    word_significant s f c.args.self.now.visited.now at.word at.stripe c.args.places c.word_place-at.result c.requires.sized (omega arith) c.requires.spot.word c.requires.spot.stripe c.word_place-at.ensures.place c.requires.rows drawn

@@ -1,0 +1,10 @@
+use Rattle.std.proofs.Common.{◌≡◌, ℤ, ◌*◌, length}
+use Rattle.jk_scan.specs.Flags.{IsDrawn, across}
+use Rattle.jk_scan.specs.Neighbours.{Field}
+use Rattle.jk_block.specs.encoding.Slices.{negative_to, IsShort, IsSliced}
+use Rattle.jk_block.proofs.encoding.slices.mark_all_negative.Given as goal
+
+abbrev pub invariant-loop-stripe : goal.invariant-loop-stripe
+invariant-loop-stripe l =
+    (length l.words ≡ length l.fn.words)
+    × ((q : Field ℤ) → IsShort l.shape q → IsSliced l.shape 24 q l.slices → IsDrawn l.shape (negative_to l.shape q (l.stripe * across l.shape)) l.words)
