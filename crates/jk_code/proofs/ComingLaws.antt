@@ -15,8 +15,10 @@ use Rattle.jk_code.specs.RowsWritten.{IsStripe, sample_on_grid}
 use Rattle.jk_tile.specs.encoding.Strips.{IsFrame}
 use Rattle.jk_tile.specs.encoding.FallingTiles.{IsStripeOf, GivesTile, AreTileSixteen}
 use Rattle.jk_tile.specs.encoding.TilesFrom.{tile_lists}
+use Rattle.jk_tile.specs.declared.encoding.fallen_tile.FallenTile.{FallenTile}
 use Rattle.jk_code.specs.declared.coming.ComingImage.{ComingImage}
 use Rattle.jk_code.specs.ComingRows.{IsComing, component_of, area_of_coming, tiles_coming, lists_coming}
+use Rattle.jk_code.specs.ComingWalks.{IsBetweenTiles}
 use Rattle.std.specs.List.{flat_map, range_with_len}
 use Rattle.jk_packet.specs.Written.{Table}
 use Rattle.jk_wave.specs.Analysis.{analysed_bands}
@@ -74,24 +76,17 @@ coming_sixteen s t n p is picture same lt count =
 
 -- ---- rows of tiles
 
--- The tiles before `first` are done, and row y is the next.
-pub record IsBetweenTiles (s : ComingImage) (first y : ℕ) : Type 0 where
-  pub begins : first % tiles_across (siz_for s.frame s.parameters.now) ≡ 0
-  pub few : first ≤ tiles_coming s
-  pub at : first < tiles_coming s → y ≡ (area_of_coming s first).y0
-  pub end : tiles_coming s ≤ first → y ≡ s.frame.y0 + s.frame.height
-
-pub between_first : (s : ComingImage) → IsComing s → IsBetweenTiles s 0 s.frame.y0
-between_first s is =
+pub between_first : (s : ComingImage) (none : List FallenTile) → IsComing s → none ≡ [] → IsBetweenTiles s (length none) s.frame.y0
+between_first s none is empty =
     let z = siz_for s.frame s.parameters.now in
     let siz = is.written.siz in
     let first = first_shown z 0 siz in
-    record {
+    subst (λ (l : List FallenTile). IsBetweenTiles s (length l) s.frame.y0) (sym empty) (record {
       begins = first.0;
       few = omega arith;
       at = λ some. sym (first_row z siz);
-      end = λ none. absurd (let some = first.2 in omega (arith, some, none));
-    }
+      end = λ past. absurd (let some = first.2 in omega (arith, some, past));
+    })
 
 pub between_next : (s : ComingImage) (first y : ℕ) → IsComing s → IsBetweenTiles s first y → first < tiles_coming s → IsBetweenTiles s (first + tiles_across (siz_for s.frame s.parameters.now)) (area_of_coming s first).y1
 between_next s first y is at lt =

@@ -32,7 +32,7 @@ pub mod RowLaws
 pub mod ReadLaws
 pub mod WalkLaws
 pub mod PictureRows
-mod GivenTiles
 pub mod EntriesKept
 pub mod NeedLaws
 pub mod ComingLaws
+pub mod ComingWalkLaws

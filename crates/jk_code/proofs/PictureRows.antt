@@ -231,17 +231,6 @@ joined_value y p v z c x r low high lt left right upper lower =
     from_value (frame_of p) g c x r lt (record { left = left; right = right; upper = omega (arith, low, upper); lower = omega (arith, high, lower) })
     ∙ ap (λ (b : Bool). if b then sample_on_grid v c x r else sample_on_grid p c x r) (le-leb y r upper)
 
-pub joined_below : (y : ℕ) (p v : Picture) (z : ℕ) → p.y0 ≤ y → z ≤ p.y0 + p.height → frame_of v ≡ frame_of p → HaveSameRows v (joined y p v) y z
-joined_below y p v z low high same =
-    let g : ℕ → ℕ → ℕ → ℤ = λ c x r. if leb y r then sample_on_grid v c x r else sample_on_grid p c x r in
-    let count = ap (λ (f : PictureFrame). f.components) same in
-    let x0 = ap (λ (f : PictureFrame). f.x0) same in
-    let width = ap (λ (f : PictureFrame). f.width) same in
-    record {
-      frame = same ∙ sym (from_frame (frame_of p) g);
-      values = λ c x r lt left right upper lower. sym (joined_value y p v z c x r low high (omega (arith, lt, count)) (omega (arith, left, x0)) (omega (arith, right, x0, width)) upper lower);
-    }
-
 -- a stripe that was joined
 joined_stripe : (y : ℕ) (p v : Picture) (z : ℕ) → IsPicture v → IsStripe (frame_of p) y z v → p.y0 ≤ y → y < z → z ≤ p.y0 + p.height → rows_of (joined y p v) y z ≡ v
 joined_stripe y p v z is stripe low more high =
@@ -289,44 +278,12 @@ given_more gave f a y z from mid to p v low before more high given is stripe her
           (taken_one gave (joined y p v) y z mid to more (subst (λ (x : Picture). gave mid x to) (sym last) here));
     }
 
--- more stripes
-pub given_both : {A : Type 0} (gave : A → Picture → A → Type 0) (f : PictureFrame) (a y z : ℕ) (from mid to : A) (p v : Picture) → f.y0 ≤ a → a ≤ y → y ≤ z → z ≤ f.y0 + f.height
-    → WereGiven gave f a y from mid p → WereGiven gave f y z mid to v → WereGiven gave f a z from to (joined y p v)
-given_both gave f a y z from mid to p v low before more high given next =
-    let top : p.y0 ≡ f.y0 = ap (λ (x : PictureFrame). x.y0) given.frame in
-    let tall : p.height ≡ f.height = ap (λ (x : PictureFrame). x.height) given.frame in
-    let same = next.frame ∙ sym given.frame in
-    let depth : v.depth ≡ p.depth = ap (λ (x : PictureFrame). x.depth) same in
-    let signed : v.signed ≡ p.signed = ap (λ (x : PictureFrame). x.signed) same in
-    record {
-      picture = joined_is y p v given.picture next.picture depth signed;
-      frame = joined_frame f y p v given.frame;
-      rows = taken_more gave (joined y p v) a y z from mid to more
-          (same_taken gave p (joined y p v) a y from mid (joined_above y p v a (omega (arith, top, low)) (omega (arith, top, tall, more, high))) given.rows)
-          (same_taken gave v (joined y p v) y z mid to (joined_below y p v z (omega (arith, top, low, before)) (omega (arith, top, tall, high)) same) next.rows);
-    }
-
 -- a fault in place of the next rows
 pub met_here : {A : Type 0} (gave : A → Picture → A → Type 0) (met : A → Fault → A → Type 0) (f : PictureFrame) (a y z : ℕ) (from mid to : A) (p : Picture) (e : Fault) → a ≤ y → y < z
     → WereGiven gave f a y from mid p → IsMemory e ⊎ met mid e to → IsMemory e ⊎ HasMet gave met f a z from to e
 met_here gave met f a y z from mid to p e low high given why = elim why [
   | inl memory ↦ inl memory
   | inr fault ↦ inr (record { picture = p; next = y; before = mid; low = low; high = high; given = given; fault = fault })
-]
-
-pub met_after : {A : Type 0} (gave : A → Picture → A → Type 0) (met : A → Fault → A → Type 0) (f : PictureFrame) (a y z : ℕ) (from mid to : A) (p : Picture) (e : Fault) → f.y0 ≤ a → a ≤ y → z ≤ f.y0 + f.height
-    → WereGiven gave f a y from mid p → IsMemory e ⊎ HasMet gave met f y z mid to e → IsMemory e ⊎ HasMet gave met f a z from to e
-met_after gave met f a y z from mid to p e low before end given why = elim why [
-  | inl memory ↦ inl memory
-  | inr m ↦ inr (record {
-    picture = joined y p m.picture;
-    next = m.next;
-    before = m.before;
-    low = (let l = m.low in omega (arith, l, before));
-    high = m.high;
-    given = given_both gave f a y m.next from mid m.before p m.picture low before m.low (let h = m.high in omega (arith, h, end)) given m.given;
-    fault = m.fault;
-  })
 ]
 
 -- ---- the same rows as what was joined
@@ -394,19 +351,3 @@ stripe_step gave f a y z from mid to p v low before more high given is stripe he
       stripe = subst (λ n. IsStripe f n (v.y0 + v.height) v) (sym start) (subst (λ n. IsStripe f y n v) (sym end) stripe);
       agrees = λ r same. joined_agrees f a y z p v r low before more high given.frame is stripe same;
     }
-
--- The same of two pictures of which one has the rows behind the other's.
-pub both_agree : (f : PictureFrame) (a y z : ℕ) (p v r : Picture) → f.y0 ≤ a → a ≤ y → y ≤ z → z ≤ f.y0 + f.height → frame_of p ≡ f → frame_of v ≡ f → HaveSameRows (joined y p v) r a z → HaveSameRows p r a y × HaveSameRows v r y z
-both_agree f a y z p v r low before more high frame same rows =
-    let top : p.y0 ≡ f.y0 = ap (λ (x : PictureFrame). x.y0) frame in
-    let tall : p.height ≡ f.height = ap (λ (x : PictureFrame). x.height) frame in (
-      same_join p (joined y p v) r a y (joined_above y p v a (omega (arith, top, low)) (omega (arith, top, tall, more, high))) (same_rows_in (joined y p v) r a z a y (omega arith) more rows),
-      same_join v (joined y p v) r y z (joined_below y p v z (omega (arith, top, low, before)) (omega (arith, top, tall, high)) (same ∙ sym frame)) (same_rows_in (joined y p v) r a z y z before (omega arith) rows),
-    )
-
-pub met_wider : {A : Type 0} (gave : A → Picture → A → Type 0) (met : A → Fault → A → Type 0) (f : PictureFrame) (a y z : ℕ) (from to : A) (e : Fault) → y ≤ z
-    → IsMemory e ⊎ HasMet gave met f a y from to e → IsMemory e ⊎ HasMet gave met f a z from to e
-met_wider gave met f a y z from to e more why = elim why [
-  | inl memory ↦ inl memory
-  | inr m ↦ inr (record { picture = m.picture; next = m.next; before = m.before; low = m.low; high = (let h = m.high in omega (arith, h, more)); given = m.given; fault = m.fault })
-]

@@ -1,12 +1,12 @@
 -- Laws of what was written so far, and of what one step more writes.
-use Rattle.std.proofs.Common.{◌≡◌, ℕ, zero, suc, ◌+◌, ◌^◌, ◌<◌, ◌≤◌, ltb, ◌⊎◌, inl, inr, Bool, true, false, List, [], ◌++◌, Option, Result, Ok, Err, OnOk, length, refl, ap, sym, ◌∙◌, subst, arith, append_assoc}
+use Rattle.std.proofs.Common.{◌≡◌, ℕ, zero, suc, ◌+◌, ◌^◌, ◌<◌, ◌≤◌, ltb, ◌⊎◌, inl, inr, Bool, true, false, if◌then◌else◌, List, [], ◌++◌, Option, Result, Ok, Err, OnOk, length, refl, ap, sym, ◌∙◌, subst, arith, append_assoc}
 use Rattle.std.specs.Bool.{⊤}
 use Rattle.std.specs.Io.KnownBytes.{Appends}
 use Rattle.std.proofs.lemmas.Bool.{le-ltb}
 use Rattle.std.proofs.lemmas.List.{append-nil}
 use Rattle.jk_math.specs.Front.{IsFront}
 use Rattle.jk_math.specs.Memory.{IsMemory}
-use Rattle.jk_math.specs.Picture.{Picture}
+use Rattle.jk_math.specs.Picture.{Picture, IsPicture}
 use Rattle.jk_math.specs.declared.fault.Fault.{Fault}
 use Rattle.jk_math.specs.declared.fault.Fault.TheVariants.{BadParameters, Limit}
 use Rattle.jk_math.proofs.Laws.{appends_none, appends_join}
@@ -16,9 +16,15 @@ use Rattle.jk_marks.specs.Codestream.{main_text, part_text, codestream_text, seg
 use Rattle.jk_params.specs.declared.parameters.Parameters.{Parameters}
 use Rattle.jk_params.specs.declared.parameters.Container.{Container}
 use Rattle.jk_params.specs.declared.parameters.Container.TheVariants.{Raw, Jp2}
-use Rattle.jk_params.specs.Profile.{siz_of, is_profile, IsWrittenBy}
+use Rattle.jk_params.specs.Profile.{siz_of, is_profile, is_profile_for, IsWrittenBy}
+use Rattle.jk_params.specs.declared.picture_frame.PictureFrame.{PictureFrame}
+use Rattle.jk_params.specs.PictureFrames.{frame_of}
+use Rattle.jk_params.proofs.Laws.{profile_by_frame}
 use Rattle.jk_window.specs.Views.{holds_below}
 use Rattle.jk_window.proofs.Laws.{below_none, below_more, below_fails}
+use Rattle.jk_code.specs.Meaning.{Means}
+use Rattle.jk_code.specs.Fronts.{HasFronts}
+use Rattle.jk_code.specs.RowsWritten.{WereAllGiven, HasMetBefore, IsWrittenOf}
 use Rattle.jk_code.specs.Written.{main_for, part_for, part_fits, parts_fit, tree_for, written}
 use Rattle.jk_code.specs.Beginnings.{front_of, parts_upto, text_upto, text_before, IsFirstTooLong, Left}
 use Rattle.jk_code.specs.Sending.{IsTooLongAhead, IsSent, IsSentAsMade, IsPartSent, IsRestSent}
@@ -214,3 +220,45 @@ left_refused p q a e profile why = elim why [
 -- outside the profile nothing is written
 pub left_outside : (p : Picture) (q : Parameters) (a : Option (List ℕ)) (e : Fault) → e ≡ BadParameters → is_profile q p ≡ false → Wrote a a (λ text. Left p q text (Err e))
 left_outside p q a e bad outside = ([], appends_none a, inl (bad, outside, refl))
+
+-- ---- the file of rows that come
+
+-- nothing of it, where they don't all come,
+pub come_none : {A : Type 0} (gave : A → Picture → A → Type 0) (met : A → Fault → A → Type 0) (f : PictureFrame) (q : Parameters) (from to : A) (a : Option (List ℕ)) (e : Fault) → IsMemory e ⊎ HasMetBefore gave met f from to e
+    → Wrote a a (λ text. IsWrittenOf gave met f q from to text (Err e))
+come_none gave met f q from to a e why = ([], appends_none a, inl (e, refl, why, refl))
+
+-- or where the parameters are refused
+refused : (b : Bool) (r : Result ⊤ Fault) (e : Fault) → r ≡ (if b then Ok tt else Err BadParameters) → r ≡ Err e → (b ≡ false) × (e ≡ BadParameters)
+refused true r e due is = absurd (let both = sym is ∙ due in cc)
+refused false r e due is = (refl, (let both = sym is ∙ due in cc))
+
+pub come_refused : {A : Type 0} (gave : A → Picture → A → Type 0) (met : A → Fault → A → Type 0) (f : PictureFrame) (q : Parameters) (from to : A) (a : Option (List ℕ)) (r : Result ⊤ Fault) (e : Fault) → r ≡ (if is_profile_for q f then Ok tt else Err BadParameters) → r ≡ Err e
+    → (p : Picture) × WereAllGiven gave f from to p → Wrote a a (λ text. IsWrittenOf gave met f q from to text (Err e))
+come_refused gave met f q from to a r e due is (p, given) =
+    let why = refused (is_profile_for q f) r e due is in
+    let outside : is_profile q p ≡ false = profile_by_frame q p ∙ ap (λ (g : PictureFrame). is_profile_for q g) given.frame ∙ why.0 in
+    ([], appends_none a, inr (p, given, inl (why.1, outside, refl)))
+
+-- the picture has the profile else:
+come_profile : {A : Type 0} (gave : A → Picture → A → Type 0) (f : PictureFrame) (q : Parameters) (from to : A) (p : Picture) → WereAllGiven gave f from to p → is_profile_for q f ≡ true → is_profile q p ≡ true
+come_profile gave f q from to p given profile = profile_by_frame q p ∙ ap (λ (g : PictureFrame). is_profile_for q g) given.frame ∙ profile
+
+-- the whole file,
+pub come_ok : {A : Type 0} (gave : A → Picture → A → Type 0) (f : PictureFrame) (q : Parameters) (from to : A) (a b : Option (List ℕ)) (Has : Picture → Type 0) (r : Result ⊤ Fault) → is_profile_for q f ≡ true → (p : Picture) × WereAllGiven gave f from to p × Has p
+    → ((p : Picture) → IsPicture p → frame_of p ≡ f → Has p → is_profile q p ≡ true → Wrote a b (λ text. Left p q text r))
+    → OnOk r ((p : Picture) → IsPicture p → frame_of p ≡ f → Has p → (file : List ℕ) → written p q ≡ Ok file → Means file 0 p × HasFronts p q file)
+    → OnOk r ((p : Picture) × WereAllGiven gave f from to p × (file : List ℕ) × (written p q ≡ Ok file) × Appends a b file × Means file 0 p × HasFronts p q file)
+come_ok gave f q from to a b Has (Ok done) profile (p, given, has) part means =
+    let wrote = part p given.picture given.frame has (come_profile gave f q from to p given profile) in
+    let meant = means p given.picture given.frame has wrote.0 wrote.2 in
+    (p, given, wrote.0, wrote.2, wrote.1, meant.0, meant.1)
+come_ok gave f q from to a b Has (Err e) profile all part means = tt
+
+-- or what is left of it
+pub come_part : {A : Type 0} (gave : A → Picture → A → Type 0) (met : A → Fault → A → Type 0) (f : PictureFrame) (q : Parameters) (from to : A) (a b : Option (List ℕ)) (Has : Picture → Type 0) (r : Result ⊤ Fault) → is_profile_for q f ≡ true
+    → (p : Picture) × WereAllGiven gave f from to p × Has p → ((p : Picture) → IsPicture p → frame_of p ≡ f → Has p → is_profile q p ≡ true → Wrote a b (λ text. Left p q text r))
+    → Wrote a b (λ text. IsWrittenOf gave met f q from to text r)
+come_part gave met f q from to a b Has r profile (p, given, has) part =
+    let wrote = part p given.picture given.frame has (come_profile gave f q from to p given profile) in
+    (wrote.0, wrote.1, inr (p, given, wrote.2))

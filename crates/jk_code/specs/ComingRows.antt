@@ -1,5 +1,5 @@
 -- The tiles of an image whose rows come.
-use Rattle.std.specs.Prelude.{◌≡◌, ℕ, ◌+◌, ◌<◌, ◌≤◌, List, [], length, slice_index_or}
+use Rattle.std.specs.Prelude.{◌≡◌, ℕ, ◌+◌, ◌<◌, List, [], length, slice_index_or}
 use Rattle.std.specs.List.{flat_map, range_with_len}
 use Rattle.jk_math.specs.Picture.{Picture}
 use Rattle.jk_math.specs.declared.rect.Rect.{Rect}
@@ -19,7 +19,6 @@ use Rattle.jk_tile.specs.encoding.FallingTiles.{components_in, IsStandingTile, H
 use Rattle.jk_tile.specs.encoding.FallenTiles.{fallen_in, IsFallenTile, IsCodedTile}
 use Rattle.jk_tile.specs.declared.encoding.falling_tile.FallingTile.{FallingTile}
 use Rattle.jk_tile.specs.declared.encoding.fallen_tile.FallenTile.{FallenTile}
-use Rattle.jk_code.specs.RowsWritten.{WereGiven, HaveSameRows}
 use Rattle.jk_code.specs.declared.coming.ComingImage.{ComingImage}
 
 -- What holds of it: the parameters allow its frame, and the coding has no exponents yet.
@@ -44,26 +43,14 @@ pub record IsFallingTile (s : ComingImage) (t y : ℕ) (x : FallingTile) : Type 
   pub components : components_in x ≡ s.frame.components
   pub next : x.y ≡ y
 
--- So many tiles, from one on, stand before row y.
-pub record AreFalling (s : ComingImage) (first n y : ℕ) (tiles : List FallingTile) : Type 0 where
-  pub count : length tiles ≡ n
-  pub each : (k : ℕ) (other : FallingTile) → k < n → IsFallingTile s (first + k) y (slice_index_or tiles k other)
+-- Tiles, from one on, stand before row y.
+abbrev pub AreFalling : ComingImage → (first y : ℕ) → List FallingTile → Type 0
+AreFalling s first y tiles = (k : ℕ) (other : FallingTile) → k < length tiles → IsFallingTile s (first + k) y (slice_index_or tiles k other)
 
 -- Their rows above that are those of a picture.
-abbrev pub HaveRows : ComingImage → (first n : ℕ) → Picture → List FallingTile → Type 0
-HaveRows s first n p tiles = (k : ℕ) (other : FallingTile) → k < n
+abbrev pub HaveRows : ComingImage → (first : ℕ) → Picture → List FallingTile → Type 0
+HaveRows s first p tiles = (k : ℕ) (other : FallingTile) → k < length tiles
     → HasTileSamples (component_of s (first + k)) (tile_value p s.parameters.now.colour) (slice_index_or tiles k other)
-
--- Rows y up to z of a picture were given from one state of what gives them to another, and are those
--- of these tiles, as are the same rows of any other picture.
-abbrev pub HaveGiven : {A : Type 0} → (gave : A → Picture → A → Type 0) → ComingImage → (first n y z : ℕ) → (from to : A) → List FallingTile → Type 0
-HaveGiven {A} gave s first n y z from to tiles = (p : Picture) × WereGiven gave s.frame y z from to p
-    × ((r : Picture) → HaveSameRows p r y z → HaveRows s first n r tiles)
-
--- Where the tiles have the rows up to row y, which were given up to the state mid of what gives them,
--- they have those up to row z now, and these were given up to the state to.
-pub record GivesMore {A : Type 0} (gave : A → Picture → A → Type 0) (s : ComingImage) (first n y z : ℕ) (mid to : A) (old new : List FallingTile) : Type 0 where
-  pub more : (a : ℕ) (from : A) → s.frame.y0 ≤ a → a ≤ y → HaveGiven gave s first n a y from mid old → HaveGiven gave s first n a z from to new
 
 -- Tile t is behind its last row.
 pub record IsTileFallen (s : ComingImage) (t : ℕ) (x : FallenTile) : Type 0 where

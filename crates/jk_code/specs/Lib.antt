@@ -24,5 +24,6 @@ pub mod DataTold
 pub mod Contents
 pub mod RowsWritten
 pub mod ComingRows
+pub mod ComingWalks
 pub mod TeamWork
 pub mod TablesTold

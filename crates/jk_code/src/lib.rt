@@ -3,6 +3,7 @@
 
 mod coded;
 mod coming;
+mod coming_walk;
 mod coming_with;
 mod contents;
 mod decoding;

@@ -1,7 +1,8 @@
 -- The planes of a raster.
-use Rattle.std.proofs.Common.{◌≡◌, ℕ, ◌+◌, ◌*◌, ◌<◌, true, false, cond, ltb, List, [], ◌∷◌, ◌++◌, length, map, get_or, ℤ, pos, refl, sym, ap, ◌∙◌, arith}
+use Rattle.std.proofs.Common.{◌≡◌, ℕ, ◌+◌, ◌*◌, ◌<◌, Bool, true, false, cond, ltb, List, [], ◌∷◌, ◌++◌, length, map, take, drop, get_or, ℤ, pos, refl, sym, ap, ◌∙◌, arith}
 use Rattle.std.specs.List.{range_with_len}
-use Rattle.std.proofs.lemmas.List.FromFn.{fill_by_all, map-range_with_len_more}
+use Rattle.std.proofs.lemmas.List.FromFn.{fill_by_all}
+use Rattle.std.proofs.lemmas.List.{take-append-le, take_all}
 use Rattle.std.proofs.lemmas.Simd.{map-map}
 use Rattle.jk_pnm.specs.declared.header.Header.{Header}
 use Rattle.jk_pnm.specs.Pnm.{components_of, sample_from, plane_from, planes_from}
@@ -42,6 +43,11 @@ grey_plane_is maxval n pixels c raster one first whole e =
     ap (λ j. get_or raster j 0) place ∙ sym (ap (λ b. cond b wide (get_or raster (k * n + c) 0)) e) in
     ap (λ (xs : List ℕ). map pos xs) (fill_by_all sample raster pixels 0 whole same)
 
+-- an image that hasn't one component has three
+pub coloured : (colour : Bool) → (components_of colour ≡ 1 → ⊥) → components_of colour ≡ 3
+coloured true other = refl
+coloured false other = absurd (other refl)
+
 -- the length of a raster of samples of one byte and one component
 pub grey_size : (h : Header) → components_of h.colour ≡ 1 → ltb 255 h.maxval ≡ false → raster_size h ≡ h.width * h.height
 grey_size h one narrow =
@@ -57,10 +63,10 @@ pub planes_are : (maxval n pixels : ℕ) (raster : List ℕ) → map (λ c. map 
 unfolding planes_from
 planes_are maxval n pixels raster = sym (map-map (map pos) (plane_from maxval n pixels raster) (range_with_len 0 n))
 
--- one more sample
-pub sample_more : (sample : ℕ → ℤ) (i : ℕ) (old new : List ℤ) (value : ℤ) → old ≡ map sample (range_with_len 0 i) → new ≡ old ++ (value ∷ []) → value ≡ sample i → new ≡ map sample (range_with_len 0 (i + 1))
-sample_more sample i old new value before pushed is =
-    pushed
-    ∙ ap (λ (z : ℤ). old ++ (z ∷ [])) is
-    ∙ ap (λ (zs : List ℤ). zs ++ (sample i ∷ [])) before
-    ∙ sym (map-range_with_len_more sample 0 i i (omega arith))
+-- a list of samples that was filled sample by sample
+pub filled : (sample : ℕ → ℤ) (new old : List ℤ) (long n : ℕ) → length new ≡ n → long ≡ n → ((k : ℕ) → k < n → get_or new k (pos 0) ≡ sample k)
+    → take long (new ++ drop (length new) old) ≡ map sample (range_with_len 0 n)
+filled sample new old long n count all each =
+    take-append-le long new (drop (length new) old) (omega (arith, count, all))
+    ∙ take_all long new (omega (arith, count, all))
+    ∙ fill_by_all sample new n (pos 0) count each

@@ -3,7 +3,7 @@ use Rattle.std.proofs.Common.{◌≡◌, ℕ, ◌+◌, ◌^◌, Bool, true, fals
 use Rattle.std.proofs.lemmas.Bool.{cases_Bool, eqb-true, eq-eqb}
 use Rattle.std.specs.List.{starts_with, find, range_with_len}
 use Rattle.jk_math.specs.Answer.{◌>>=◌, refuse}
-use Rattle.jk_math.specs.Picture.{Picture, IsPicture}
+use Rattle.jk_math.specs.Picture.{IsPicture}
 use Rattle.jk_math.specs.declared.fault.Fault.{Fault}
 use Rattle.jk_math.specs.declared.fault.Fault.TheVariants.{BadPnm}
 use Rattle.jk_pnm.specs.declared.header.Header.{Header}

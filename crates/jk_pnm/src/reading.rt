@@ -1,7 +1,7 @@
 //! Reading.
 
 ghost use Rattle.std.specs.Prelude.{◌≡◌, ◌*◌, ◌+◌, ◌-◌, ◌<◌, ◌≤◌, ◌^◌, ℕ, List, false, nat_lt, length, drop, IfOk};
-ghost use Rattle.std.specs.Prelude.{IfErr, Ok, map, pos, slice_index};
+ghost use Rattle.std.specs.Prelude.{IfErr, Ok, map, pos, slice_index, slice_index_or};
 ghost use Rattle.std.specs.List.{range_with_len};
 ghost use Rattle.jk_math.specs.Memory.{IsMemory};
 ghost use Rattle.jk_math.specs.Answer.{Answers};
@@ -22,27 +22,52 @@ fn bytes_plane(alloc: Global, raster: &[u8]) -> Result<Vec<i32>, Fault>
     Ok(raster.iter().map(|byte| *byte as i32).collect(alloc)?)
 }
 
-/// The samples of a component, each of one byte.
+/// Puts the samples that a raster in colours has of a component, each of one byte, into a list.
+fn put_narrow(samples: &mut [i32], raster: &[u8], component: usize)
+    requires component { component < 3 }
+    requires whole { length samples.old * 3 ≤ length raster.now }
+    ensures count { length samples.new ≡ length samples.old }
+    ensures each { (k : ℕ) → k < length samples.old
+        → slice_index_or samples.new k (pos 0) ≡ pos (slice_index raster.now (k * 3 + component)) }
+{
+    for pixel in 0..samples.len() {
+        samples[pixel] = raster[pixel * 3 + component] as i32;
+    }
+}
+
+/// The samples that a raster in colours has of a component, each of one byte.
 #[inline(never)]
 fn narrow_plane(
     alloc: Global,
     raster: &[u8],
     pixels: usize,
-    components: usize,
     component: usize,
 ) -> Result<Vec<i32>, Fault>
-    requires component { component < components }
-    requires whole { pixels * components ≤ length raster.now }
+    requires component { component < 3 }
+    requires whole { pixels * 3 ≤ length raster.now }
     ensures value { IfOk result
-        (λ v. v.items
-        ≡ map (λ pixel. pos (slice_index raster.now (pixel * components + component))) (range_with_len 0 pixels)) }
+        (λ v. v.items ≡ map (λ pixel. pos (slice_index raster.now (pixel * 3 + component))) (range_with_len 0 pixels)) }
     ensures err { IfErr result (λ e. IsMemory e) }
 {
-    let mut samples = Vec::with_capacity(alloc, pixels)?;
-    for pixel in 0..pixels {
-        samples.push(raster[pixel * components + component] as i32)?;
-    }
+    let mut samples = vec![in alloc; 0; pixels]?;
+    put_narrow(&mut samples, raster, component);
     Ok(samples)
+}
+
+/// Puts the samples that a raster has of one of so many components, each of two bytes, into a list.
+#[inline(always)]
+fn put_wide(samples: &mut [i32], raster: &[u8], components: usize, component: usize)
+    requires component { component < components }
+    requires whole { 2 * (length samples.old * components) ≤ length raster.now }
+    ensures count { length samples.new ≡ length samples.old }
+    ensures each { (k : ℕ) → k < length samples.old → slice_index_or samples.new k (pos 0)
+        ≡ pos (256 * slice_index raster.now (2 * (k * components + component))
+        + slice_index raster.now (2 * (k * components + component) + 1)) }
+{
+    for pixel in 0..samples.len() {
+        let at = 2 * (pixel * components + component);
+        samples[pixel] = (256 * raster[at] as u32 + raster[at + 1] as u32) as i32;
+    }
 }
 
 /// The samples of a component, each of two bytes.
@@ -63,11 +88,12 @@ fn wide_plane(
         + slice_index raster.now (2 * (pixel * components + component) + 1))) (range_with_len 0 pixels)) }
     ensures err { IfErr result (λ e. IsMemory e) }
 {
-    let mut samples = Vec::with_capacity(alloc, pixels)?;
-    for pixel in 0..pixels {
-        let at = 2 * (pixel * components + component);
-        samples.push((256 * raster[at] as u32 + raster[at + 1] as u32) as i32)?;
+    let mut samples = vec![in alloc; 0; pixels]?;
+    if components == 1 {
+        put_wide(&mut samples, raster, 1, component);
+        return Ok(samples);
     }
+    put_wide(&mut samples, raster, components, component);
     Ok(samples)
 }
 
@@ -88,7 +114,7 @@ fn plane(alloc: Global, header: &Header, raster: &[u8], component: usize) -> Res
     } else if components == 1 {
         bytes_plane(alloc, raster)
     } else {
-        narrow_plane(alloc, raster, pixels, components, component)
+        narrow_plane(alloc, raster, pixels, component)
     }
 }
 

@@ -30,16 +30,18 @@ impl Gate for Held {
     }
 }
 
-/// Keeps the samples of the first component.
+/// Keeps the samples of the first component, and how many rows each stripe has.
 #[derive(Drop)]
 struct Kept {
     samples: Vec<i32>,
+    counts: Vec<u32>,
 }
 
 impl Rows for Kept {
     ghost took = { λ _ _ _. Unit {0} };
 
     fn take(&mut self, _alloc: Global, rows: Image) -> Result<(), Fault> {
+        self.counts.push(rows.height())?;
         let planes = rows.planes();
         if planes.len() > 0 {
             self.samples.extend_from_slice(planes.plane(0))?;
@@ -78,25 +80,37 @@ pub(crate) fn with_levels(alloc: Global, levels: u8) -> Parameters {
     }
 }
 
-/// The samples of a file, decoded so many rows at a time by so many workers.
-fn samples_by<R: Threads + Sync, G: Gate + Sync>(
+/// The rows of a file, decoded so many at a time by so many workers.
+fn rows_by<R: Threads + Sync, G: Gate + Sync>(
     rt: &R,
     alloc: Global,
     count: usize,
     gate: &G,
     file: &[u8],
     step: u32,
-) -> Result<Vec<i32>, Fault>
+) -> Result<Kept, Fault>
     requires some { 1 ≤ count }
     requires few { count ≤ 64 }
     requires step { 1 ≤ step }
 {
     let mut kept = Kept {
         samples: Vec::new(alloc),
+        counts: Vec::new(alloc),
     };
     let workers = Workers { rt, count };
     decode_rows_with(&workers, alloc, gate, file, 0, step, &mut kept)?;
-    Ok(kept.samples)
+    Ok(kept)
+}
+
+/// Whether each stripe has so many rows, or one or two more, and the last one no more.
+fn are_steps(counts: &[u32], step: u32) -> bool {
+    let most = step.saturating_add(2);
+    match counts.split_last() {
+        Some((last, before)) => {
+            *last <= most && before.iter().all(|count| step <= *count && *count <= most)
+        }
+        None => false,
+    }
 }
 
 /// Each code-block is told once when it begins and once when it has ended, and the first ends only
@@ -109,9 +123,9 @@ fn two_code_blocks_at_a_time(rt: HostRuntime) -> Result<(), Fail> {
     let held = Held {
         meeting: Meeting::new(alloc, 4)?,
     };
-    let samples = samples_by(&rt, alloc, 2, &held, &file, 1000)?;
+    let rows = rows_by(&rt, alloc, 2, &held, &file, 1000)?;
     let planes = image.planes();
-    let is_due = planes.len() > 0 && samples.as_slice() == planes.plane(0);
+    let is_due = planes.len() > 0 && rows.samples.as_slice() == planes.plane(0);
     equal(is_due, true).expect(&rt, "the samples");
     equal(held.meeting.was_met(1), true).expect(&rt, "the meeting");
     Ok(())
@@ -120,7 +134,8 @@ fn two_code_blocks_at_a_time(rt: HostRuntime) -> Result<(), Fail> {
 /// How many rows are decoded at a time: fewer than a code-block has, and more than there are.
 static STEPS: [u32; 5] = [1, 2, 7, 33, 1000];
 
-/// The same samples, however many rows are decoded at a time, by one worker and by several.
+/// The same samples, however many rows are decoded at a time, by one worker and by several; and so many
+/// are given at a time.
 #[test]
 fn steps_of_rows(rt: HostRuntime) -> Result<(), Fail> {
     let alloc = rt.alloc();
@@ -129,10 +144,13 @@ fn steps_of_rows(rt: HostRuntime) -> Result<(), Fail> {
     let planes = image.planes();
     for step in STEPS {
         let step = step.max(1);
-        let one = samples_by(&rt, alloc, 1, &Open, &file, step)?;
-        let five = samples_by(&rt, alloc, 5, &Open, &file, step)?;
-        let is_due = planes.len() > 0 && one.as_slice() == planes.plane(0);
-        equal_at(step, (is_due, five == one), (true, true)).expect(&rt, "the samples");
+        let one = rows_by(&rt, alloc, 1, &Open, &file, step)?;
+        let five = rows_by(&rt, alloc, 5, &Open, &file, step)?;
+        let is_due = planes.len() > 0 && one.samples.as_slice() == planes.plane(0);
+        let are_same = five.samples == one.samples;
+        equal_at(step, (is_due, are_same), (true, true)).expect(&rt, "the samples");
+        let found = (are_steps(&one.counts, step), are_steps(&five.counts, step));
+        equal_at(step, found, (true, true)).expect(&rt, "the rows of stripes");
     }
     Ok(())
 }

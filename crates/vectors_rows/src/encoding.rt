@@ -151,6 +151,38 @@ fn beside_whole(rt: &impl Abort, alloc: Global, image: &Image, given: &Parameter
     stepped(rt, alloc, image, given, 64, &due);
 }
 
+/// An image that isn't cut into tiles, and its parameters, by chance.
+pub(crate) fn untiled(alloc: Global, chance: &mut Chance) -> Result<(Image, Parameters), Fail> {
+    let image = image(alloc, chance, kind(false))?;
+    let mut given = any_parameters(alloc, chance, &image)?;
+    given.tile = None;
+    Ok((image, given))
+}
+
+/// How many stripes of four rows an image has, the last one perhaps of fewer.
+pub(crate) fn stripes_of_four(image: &Image) -> u32 {
+    image.height().div_ceil(4)
+}
+
+/// As many stripes are asked for as the image has, and no fewer.
+#[test]
+fn stripes_that_are_asked_for(rt: HostRuntime) -> Result<(), Fail> {
+    let alloc = rt.alloc();
+    let mut chance = Chance { state: 72 };
+    for turn in 0..6 {
+        let (image, given) = untiled(alloc, &mut chance)?;
+        let due = whole(alloc, &image, &given);
+        let count = stripes_of_four(&image);
+        let mut bytes = Vec::new(alloc);
+        let (told, _next) = encoded(alloc, &image, &given, 4, count, &mut bytes);
+        equal_at(turn, told, due.0).expect(&rt, "what is due");
+        let fewer = count.saturating_sub(1);
+        let (told, _next) = encoded(alloc, &image, &given, 4, fewer, &mut bytes);
+        equal_at(turn, told, Err(Fault::Truncated)).expect(&rt, "a stripe fewer");
+    }
+    Ok(())
+}
+
 /// A fault in place of a stripe of one row is told, and nothing is written.
 fn without_row(rt: &impl Abort, alloc: Global, image: &Image, given: &Parameters, left: u32) {
     let mut bytes = Vec::new(alloc);

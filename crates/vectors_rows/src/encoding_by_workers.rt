@@ -4,7 +4,7 @@ ghost use Rattle.std.specs.Prelude.{◌≤◌};
 
 use crate::by_workers::{Held, noisy, with_levels};
 use crate::chance::{Chance, image, plane};
-use crate::encoding::{Supply, Written, any_parameters, kind, whole};
+use crate::encoding::{Supply, Written, any_parameters, kind, stripes_of_four, untiled, whole};
 use jk_code::{Team, encode_rows_with};
 use jk_jobs::{Gate, Open};
 use jk_math::{Fault, Image};
@@ -64,6 +64,25 @@ fn beside_whole<R: Threads + Sync + Abort>(
         equal_at(step, told, due.0).expect(rt, "what is due");
         equal_at(step, bytes.as_slice(), due.1.as_slice()).expect(rt, "what is due");
     }
+}
+
+/// Several workers are given as many stripes as the image has, and no fewer.
+#[test]
+fn stripes_that_workers_ask_for(rt: HostRuntime) -> Result<(), Fail> {
+    let alloc = rt.alloc();
+    let mut chance = Chance { state: 73 };
+    let workers = Workers { rt: &rt, count: 2 };
+    for turn in 0..6 {
+        let (image, given) = untiled(alloc, &mut chance)?;
+        let due = whole(alloc, &image, &given);
+        let count = stripes_of_four(&image);
+        let (told, _bytes) = written_by(&workers, alloc, &Open, &image, &given, 4, count);
+        equal_at(turn, told, due.0).expect(&rt, "what is due");
+        let fewer = count.saturating_sub(1);
+        let (told, _bytes) = written_by(&workers, alloc, &Open, &image, &given, 4, fewer);
+        equal_at(turn, told, Err(Fault::Truncated)).expect(&rt, "a stripe fewer");
+    }
+    Ok(())
 }
 
 #[test]

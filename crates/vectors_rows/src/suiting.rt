@@ -95,6 +95,10 @@ fn code_blocks(rt: HostRuntime) -> Result<(), Fail> {
     suits(&rt, rt.alloc(), in_blocks(10, 2, 1), (true, true))?;
     suits(&rt, rt.alloc(), in_blocks(4, 4, 14), (true, true))?;
     suits(&rt, rt.alloc(), in_blocks(4, 4, 15), (false, false))?;
+    // Of a tile that is higher than the image the image's rows count.
+    let mut high = in_blocks(4, 4, 14);
+    high.tile = Some((8, 4096));
+    suits(&rt, rt.alloc(), high, (true, true))?;
     suits(&rt, rt.alloc(), in_blocks(6, 6, 32), (true, true))
 }
 
@@ -104,5 +108,27 @@ fn bytes_without_a_header(rt: HostRuntime) -> Result<(), Fail> {
     front.truncate(40);
     equal(suits_rows(&front, 0), true).expect(&rt, "what is due");
     equal(suits_rows(&[], 0), true).expect(&rt, "what is due");
+    Ok(())
+}
+
+/// Where COC stands behind COD: SOC, SIZ of one component and COD, without precincts, have so many
+/// bytes (T.800 A.5.1, A.6.1).
+const COC_AT: usize = 59;
+
+/// COC of component 0: 3 levels, code-blocks of 4 by 4, no style, the reversible transform (T.800
+/// A.6.2).
+static COC: [u8; 11] = [
+    0xFF, 0x53, 0x00, 0x09, 0x00, 0x00, 0x03, 0x00, 0x00, 0x00, 0x01,
+];
+
+/// The code-blocks of a component that has its own are looked at too.
+#[test]
+fn code_blocks_of_a_component(rt: HostRuntime) -> Result<(), Fail> {
+    let file = file(rt.alloc(), PLAIN)?;
+    let (front, back) = file.split_at(COC_AT.min(file.len()));
+    let mut own = Vec::from_slice(rt.alloc(), front)?;
+    own.extend_from_slice(&COC)?;
+    own.extend_from_slice(back)?;
+    equal((suits_rows(&file, 0), suits_rows(&own, 0)), (true, false)).expect(&rt, "what is due");
     Ok(())
 }

@@ -80,9 +80,22 @@ fn put_others<R: Files + Abort>(rt: &R, alloc: Global, path: &str) {
     put(rt, alloc, path, "c.jp2", Content::Bare);
     put(rt, alloc, path, "x.txt", Content::Page);
     put(rt, alloc, path, "y.tmp", Content::Page);
+    put(rt, alloc, path, "Z.tmp", Content::Page);
     put(rt, alloc, path, "B.jp2", Content::Page);
     let inner = within(rt, alloc, path, "d.jp2");
     fs::create_dir(rt, inner.as_str()).expect(rt, "a directory");
+}
+
+/// Which of these names have something that can't be opened as a file.
+fn taken<R: Files + Abort + Drop>(rt: &R, alloc: Global, folder: &Folder<R>) -> String {
+    let mut taken = Told::new(alloc);
+    for name in ["a", "d", "d.jp2", "y"] {
+        if folder.has_other(name) {
+            taken.word(name);
+            taken.word(";");
+        }
+    }
+    taken.end().expect(rt, "names")
 }
 
 /// What is listed of a directory, what is skipped and what is told.
@@ -91,7 +104,13 @@ fn seen_in<R: Files + Abort + Copy + Drop>(rt: R, alloc: Global, path: &str) -> 
     let names = listed(&rt, &archive, alloc);
     let others = skipped(&rt, &archive, alloc);
     let told = told(&rt, alloc, archive.shelf());
-    let texts = [names.as_str(), others.as_str(), told.as_str()];
+    let taken = taken(&rt, alloc, archive.shelf());
+    let texts = [
+        names.as_str(),
+        others.as_str(),
+        told.as_str(),
+        taken.as_str(),
+    ];
     joined(&rt, alloc, &texts)
 }
 
@@ -122,7 +141,7 @@ fn an_archive_of_files(rt: HostRuntime) {
     let second = seen_in(rt, alloc, path.as_str());
     let third = read_four(rt, alloc, path.as_str());
     equal(&rt, first.as_str(), "b a ");
-    equal(&rt, second.as_str(), "a b |c F13 BadBox;|d.jp2;y.tmp;|");
+    equal(&rt, second.as_str(), "a b |c F13 BadBox;|d.jp2;y.tmp;|d;|");
     let faults = [Ok(true), Ok(true), Err(Fault::Changed), Err(Fault::Shelf)];
     equal(&rt, third, (faults, 1));
 }

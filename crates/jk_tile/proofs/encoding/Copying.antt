@@ -7,11 +7,7 @@ use Rattle.jk_math.specs.declared.rect.Rect.{Rect}
 use Rattle.jk_math.specs.Raster.{columns_of, rows_of, places_of, plane_at, raster}
 use Rattle.jk_math.specs.Signed.{signed_at}
 use Rattle.jk_math.proofs.Laws.{raster_is}
-use Rattle.jk_tile.specs.Filling.{IsPartOf}
-
--- where row `row` of the part begins in the list of the rectangle
-abbrev pub row_start : Rect → Rect → ℕ → ℕ
-row_start area part row = (part.y0 - area.y0 + row) * columns_of area + (part.x0 - area.x0)
+use Rattle.jk_tile.specs.Filling.{IsPartOf, row_start, row_of}
 
 pub start_inside : (area part : Rect) (row : ℕ) → IsPartOf part area → row < rows_of part → row_start area part row + columns_of part ≤ places_of area
 start_inside area part row is lt =
@@ -19,10 +15,6 @@ start_inside area part row is lt =
     let w = columns_of area in
     let fits : (part.y0 - area.y0 + row) * w + w ≤ rows_of area * w = row_fits (part.y0 - area.y0 + row) w (rows_of area) w (omega (arith, upper, lower, lt)) (omega arith) in
     omega (arith, fits, left, across, right)
-
--- the values of that row
-abbrev row_of : Rect → Rect → ℕ → List ℤ → List ℤ
-row_of area part row values = take (columns_of part) (drop (row_start area part row) values)
 
 row_long : (area part : Rect) (row : ℕ) (values : List ℤ) → IsPartOf part area → row < rows_of part → length values ≡ places_of area → length (row_of area part row values) ≡ columns_of part
 row_long area part row values is lt long =

@@ -195,21 +195,22 @@ waiting_none s r i bits p q [] none same = same
 waiting_none s r i bits p q (x ∷ ws) none all = absurd (omega (arith, none))
 
 -- what becomes of the sub-band
-abbrev pub waiting_on : BandStrips → Vec WaitingRow → Vec ℤ → BandStrips
-waiting_on b waiting strip = record {
+abbrev pub waiting_on : BandStrips → Vec WaitingRow → (strip room : Vec ℤ) → BandStrips
+waiting_on b waiting strip room = record {
   resolution = b.resolution;
   band = b.band;
   top = b.top;
   waiting = waiting;
   area = record { x0 = b.area.x0; y0 = b.area.y1; x1 = b.area.x1; y1 = b.area.y1 };
   strip = strip;
+  room = room;
   blocks = b.blocks;
   bits = b.bits;
 }
 
-pub waits_holds : (s : ComponentFrame) (b : BandStrips) (values strip : Vec ℤ) (waiting : Vec WaitingRow) → HoldsRows s b → b.area.y0 < b.area.y1 → b.area.y1 ≡ row_end (own_band s b) (block_exponent s.coding b.resolution) b.area.y0 → values.items ≡ b.strip.items
-    → waiting.items ≡ b.waiting.items ++ record { area = b.area; values = values } ∷ [] → strip.items ≡ [] → IsBetweenRows s (waiting_on b waiting strip)
-waits_holds s b values strip waiting holds some whole ev ew es = (
+pub waits_holds : (s : ComponentFrame) (b : BandStrips) (values strip room : Vec ℤ) (waiting : Vec WaitingRow) → HoldsRows s b → b.area.y0 < b.area.y1 → b.area.y1 ≡ row_end (own_band s b) (block_exponent s.coding b.resolution) b.area.y0 → values.items ≡ b.strip.items
+    → waiting.items ≡ b.waiting.items ++ record { area = b.area; values = values } ∷ [] → strip.items ≡ [] → IsBetweenRows s (waiting_on b waiting strip room)
+waits_holds s b values strip room waiting holds some whole ev ew es = (
   record {
     resolution = holds.resolution;
     band = holds.band;
@@ -236,9 +237,9 @@ waits_holds s b values strip waiting holds some whole ev ew es = (
   λ more. absurd (omega (arith, more)),
 )
 
-pub waits_rows : (s : ComponentFrame) (f : ℕ → ℕ → ℕ → ℤ) (b : BandStrips) (values strip : Vec ℤ) (waiting : Vec WaitingRow) → values.items ≡ b.strip.items → waiting.items ≡ b.waiting.items ++ record { area = b.area; values = values } ∷ [] → strip.items ≡ []
-    → HasRowsOf s f b → HasRowsOf s f (waiting_on b waiting strip)
-waits_rows s f b values strip waiting ev ew es has =
+pub waits_rows : (s : ComponentFrame) (f : ℕ → ℕ → ℕ → ℤ) (b : BandStrips) (values strip room : Vec ℤ) (waiting : Vec WaitingRow) → values.items ≡ b.strip.items → waiting.items ≡ b.waiting.items ++ record { area = b.area; values = values } ∷ [] → strip.items ≡ []
+    → HasRowsOf s f b → HasRowsOf s f (waiting_on b waiting strip room)
+waits_rows s f b values strip room waiting ev ew es has =
     let g = f (band_number b.resolution b.band) in
     record {
       blocks = has.blocks;
@@ -259,14 +260,15 @@ abbrev pub strip_of : (r i : ℕ) → Rect → List ℤ → Strip
 strip_of r i a values = record { resolution = r; band = i; area = a; values = record { ref_ptr = (0, 0); now = values } }
 
 -- what becomes of the sub-band
-abbrev pub coded_on : BandStrips → WaitingRow → Vec WaitingRow → Vec ℤ → Vec (Vec Layered) → BandStrips
-coded_on b w rest strip blocks = record {
+abbrev pub coded_on : BandStrips → WaitingRow → Vec WaitingRow → (strip room : Vec ℤ) → Vec (Vec Layered) → BandStrips
+coded_on b w rest strip room blocks = record {
   resolution = b.resolution;
   band = b.band;
   top = w.area.y1;
   waiting = rest;
   area = b.area;
   strip = strip;
+  room = room;
   blocks = blocks;
   bits = b.bits;
 }
@@ -287,8 +289,8 @@ first_waiting s b w rest values strip blocks holds is = subst (AreWaiting s b.re
 pub first_whole : (s : ComponentFrame) (b : BandStrips) (w : WaitingRow) (rest : List WaitingRow) (values : List ℤ) → HoldsRows s b → b.waiting.items ≡ w ∷ rest → values ≡ w.values.items → IsRowOf s b.resolution b.band w.area values
 first_whole s b w rest values holds ew ev = subst (IsRowOf s b.resolution b.band w.area) (sym ev) (subst (AreWaiting s b.resolution b.band b.bits b.top b.area.y0) ew holds.waiting).1.row
 
-pub coded_holds : (s : ComponentFrame) (b : BandStrips) (w : WaitingRow) (rest : Vec WaitingRow) (values : List ℤ) (strip : Vec ℤ) (blocks : Vec (Vec Layered)) → IsBetweenRows s b → IsFirstCoded s b w rest.items values strip.items blocks.items → IsBetweenRows s (coded_on b w rest strip blocks)
-coded_holds s b w rest values strip blocks (holds, missing) is = (
+pub coded_holds : (s : ComponentFrame) (b : BandStrips) (w : WaitingRow) (rest : Vec WaitingRow) (values : List ℤ) (strip room : Vec ℤ) (blocks : Vec (Vec Layered)) → IsBetweenRows s b → IsFirstCoded s b w rest.items values strip.items blocks.items → IsBetweenRows s (coded_on b w rest strip room blocks)
+coded_holds s b w rest values strip room blocks (holds, missing) is = (
   record {
     resolution = holds.resolution;
     band = holds.band;
@@ -324,9 +326,9 @@ coded_holds s b w rest values strip blocks (holds, missing) is = (
       | inr past ↦ subst (All (λ (k : Layered). k.planes ≤ b.bits)) (sym (get_or_past (lists_of blocks.items) n [] (let long = length-map blocks.items (λ v. v.items) in let a = is.count in let c = holds.count in omega (arith, past, long, a, c)))) (All-nil (λ (k : Layered). k.planes ≤ b.bits))
     ]
 
-pub coded_rows : (s : ComponentFrame) (f : ℕ → ℕ → ℕ → ℤ) (b : BandStrips) (w : WaitingRow) (rest : Vec WaitingRow) (values : List ℤ) (strip : Vec ℤ) (blocks : Vec (Vec Layered)) → HoldsRows s b → IsFirstCoded s b w rest.items values strip.items blocks.items → HasRowsOf s f b
-    → HasRowsOf s f (coded_on b w rest strip blocks)
-coded_rows s f b w rest values strip blocks holds is has = record {
+pub coded_rows : (s : ComponentFrame) (f : ℕ → ℕ → ℕ → ℤ) (b : BandStrips) (w : WaitingRow) (rest : Vec WaitingRow) (values : List ℤ) (strip room : Vec ℤ) (blocks : Vec (Vec Layered)) → HoldsRows s b → IsFirstCoded s b w rest.items values strip.items blocks.items → HasRowsOf s f b
+    → HasRowsOf s f (coded_on b w rest strip room blocks)
+coded_rows s f b w rest values strip room blocks holds is has = record {
   blocks = λ n lt.
       above_more s x f n (list_at b.blocks.items n) (list_at blocks.items n) whole
       (has.blocks n lt ∙ ap (λ y. map (layered_at s f b.resolution n b.band) (range_with_len 0 (blocks_above (grid_at s.rect s.coding b.resolution n b.band) y))) (sym (first_waiting s b w rest.items values strip.items blocks.items holds is).0))

@@ -2,11 +2,10 @@
 //! stand. What was coded of one is taken for another only where both have the same values, so that
 //! nothing rests on which of them were coded before.
 
-ghost use Rattle.std.specs.Prelude.{◌≡◌, ◌+◌, ◌<◌, ◌≤◌, ℤ, List, All, IsTrue, IfSome, IfOk, IfErr, OnOk, length, map, take, drop, reverse};
+ghost use Rattle.std.specs.Prelude.{◌≡◌, ◌+◌, ◌<◌, ◌≤◌, ℤ, List, All, IfSome, IfOk, IfErr, length, map, take, drop, reverse};
 ghost use Rattle.std.specs.List.{flat_map};
 ghost use Rattle.jk_math.specs.Lists.{lists_of};
 ghost use Rattle.jk_math.specs.Memory.{IsMemory};
-ghost use Rattle.jk_block.specs.CodedBlocks.{shape_of};
 ghost use Rattle.jk_tile.specs.encoding.Ahead.{IsCodable, layered_block, AreUncoded, IsCodedAhead, IsGroup, AreGroupsOf};
 
 use crate::encoding::tables::LayeredBlock;
@@ -43,9 +42,9 @@ pub struct CodedBlocks {
 
 /// A code-block that was coded, and what was coded of it.
 #[derive(Drop)]
-struct CodedPair {
-    block: Block,
-    coded: LayeredBlock,
+pub(crate) struct CodedPair {
+    pub(crate) block: Block,
+    pub(crate) coded: LayeredBlock,
 }
 
 /// Code-blocks that are one job: a large one, or several small ones.
@@ -73,7 +72,7 @@ impl<'a> Work for GroupJob<'a> {
 }
 
 /// Codes a code-block and cuts it into layers.
-fn code_block(alloc: Global, block: &Block, layers: u16) -> Result<LayeredBlock, Fault>
+pub(crate) fn code_block(alloc: Global, block: &Block, layers: u16) -> Result<LayeredBlock, Fault>
     requires { IsCodable block.now }
     ensures value { IfOk result (λ k. k ≡ layered_block layers block.now) }
     ensures memory { IfErr result IsMemory }
@@ -212,33 +211,6 @@ pub fn code_blocks<R: Threads + Sync, G: Gate + Sync>(
     }
 }
 
-/// Whether two lists of coefficients are the same.
-fn are_same(one: &[i32], other: &[i32]) -> bool
-    ensures { IsTrue result → one.now ≡ other.now }
-{
-    if one.len() != other.len() {
-        return false;
-    }
-    for index in 0..one.len() {
-        if one[index] != other[index] {
-            return false;
-        }
-    }
-    true
-}
-
-/// Whether two code-blocks have the same shape and coefficients.
-fn is_same(one: &Block, other: &Block) -> bool
-    ensures shape { IsTrue result → shape_of one.now ≡ shape_of other.now }
-    ensures values { IsTrue result → one.now.values.items ≡ other.now.values.items }
-{
-    one.width == other.width
-        && one.height == other.height
-        && one.orientation == other.orientation
-        && one.style == other.style
-        && are_same(&one.values, &other.values)
-}
-
 impl UncodedBlocks {
     /// No code-block, for so many layers.
     pub fn new(alloc: Global, layers: u16) -> UncodedBlocks
@@ -291,39 +263,18 @@ impl CodedBlocks {
         self.rows.pop().unwrap_or(0)
     }
 
-    /// The next code-block, and what was coded of it.
-    fn next(&mut self) -> Option<CodedPair>
+    /// The next code-block, and what was coded of it, if that was cut into so many layers.
+    pub(crate) fn next_in(&mut self, layers: u16) -> Option<CodedPair>
         requires ahead { IsCodedAhead self.old }
         ensures ahead { IsCodedAhead self.new }
-        ensures value { IfSome result (λ p. p.coded ≡ layered_block self.old.layers p.block) }
-        ensures layers { self.new.layers ≡ self.old.layers }
+        ensures value { IfSome result (λ p. p.coded ≡ layered_block layers p.block) }
     {
-        match (self.blocks.pop(), self.coded.pop()) {
-            (Some(block), Some(coded)) => Some(CodedPair { block, coded }),
-            _ => None,
+        let (Some(block), Some(coded)) = (self.blocks.pop(), self.coded.pop()) else {
+            return None;
+        };
+        if self.layers != layers {
+            return None;
         }
-    }
-
-    /// A code-block cut into so many layers: what was coded before, where the next one is the same, or
-    /// what is coded now.
-    pub(crate) fn layered(
-        &mut self,
-        alloc: Global,
-        block: &Block,
-        layers: u16,
-    ) -> Result<LayeredBlock, Fault>
-        requires ahead { IsCodedAhead self.old }
-        requires block { IsCodable block.now }
-        ensures ahead { IsCodedAhead self.new }
-        ensures value { IfOk result (λ k. k ≡ layered_block layers block.now) }
-        ensures memory { IfErr result IsMemory }
-    {
-        let own = self.layers;
-        if let Some(next) = self.next() {
-            if own == layers && is_same(&next.block, block) {
-                return Ok(next.coded);
-            }
-        }
-        code_block(alloc, block, layers)
+        Some(CodedPair { block, coded })
     }
 }

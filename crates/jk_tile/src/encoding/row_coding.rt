@@ -1,19 +1,21 @@
 //! The code-blocks of a row of them: they are cut out of the coefficients of the row, precinct by
 //! precinct, and coded and cut into layers, or listed for workers.
 
-ghost use Rattle.std.specs.Prelude.{◌≡◌, ℕ, ◌+◌, ◌<◌, ◌≤◌, ◌++◌, [], All, None, Option, IfSome, IfOk, IfErr, OnOk, false, length};
+ghost use Rattle.std.specs.Prelude.{◌≡◌, ℕ, ◌+◌, ◌<◌, ◌≤◌, ◌++◌, [], All, None, Option, IsTrue, IfSome, IfOk, IfErr, OnOk, false, length};
 ghost use Rattle.jk_math.specs.Memory.{IsMemory};
 ghost use Rattle.jk_math.specs.Lists.{list_at};
 ghost use Rattle.jk_math.specs.Raster.{plane_at};
+ghost use Rattle.jk_block.specs.CodedBlocks.{shape_of};
 ghost use Rattle.jk_geom.specs.Rectangles.{is_empty};
 ghost use Rattle.jk_geom.specs.Precincts.{precinct_number, precincts_across};
 ghost use Rattle.jk_tile.specs.encoding.Strips.{IsWholeRow, IsRowPart, IsOfPart, first_precinct_at, layered_between};
 ghost use Rattle.jk_tile.specs.encoding.Strips.{layered_at, row_values};
 ghost use Rattle.jk_tile.specs.encoding.Ahead.{IsCodable, layered_block, AreUncoded, IsCodedAhead};
 
-use crate::bands::orientation;
-use crate::encoding::ahead::{CodedBlocks, UncodedBlocks};
+use crate::bands::{orientation, shape_at};
+use crate::encoding::ahead::{CodedBlocks, UncodedBlocks, code_block};
 use crate::encoding::component::WrittenComponent;
+use crate::encoding::cutting::is_cut;
 use crate::encoding::tables::LayeredBlock;
 use crate::encoding::writing::cut_block;
 use jk_block::Block;
@@ -21,6 +23,7 @@ use jk_geom::{
     BlockGrid, blocks, is_empty, precinct_count, precinct_part_size, precinct_size, resolution,
 };
 use jk_math::{Fault, Rect};
+use jk_scan::BlockShape;
 use std::alloc::Global;
 
 /// A row of code-blocks of sub-band `band` of a resolution: its rectangle, which is as wide as the
@@ -117,6 +120,64 @@ fn cut_part(
     )
 }
 
+/// Whether a code-block has this shape.
+fn has_shape(block: &Block, shape: BlockShape) -> bool
+    ensures { IsTrue result → shape_of block.now ≡ shape }
+{
+    block.width == shape.width
+        && block.height == shape.height
+        && block.orientation == shape.orientation
+        && block.style == shape.style
+}
+
+/// Whether a code-block is code-block `j` of those of a precinct.
+fn is_part(
+    source: &WrittenComponent<'_>,
+    strip: Strip<'_>,
+    part: &RowPart,
+    j: u32,
+    block: &Block,
+) -> bool
+    requires strip { IsWholeRow source.now strip }
+    requires part { IsRowPart source.now strip part.now }
+    requires j { IsOfPart source.now strip part.now.precinct j }
+    ensures { IsTrue result → layered_block source.now.layers block.now
+        ≡ layered_at source.now (row_values strip.entry) strip.entry.resolution part.now.precinct strip.entry.band j }
+{
+    let orientation = orientation(strip.resolution, strip.band);
+    let place = part.grid.block(j);
+    let shape = shape_at(&place, orientation, source.coding().style);
+    has_shape(block, shape) && is_cut(&strip.area, strip.values, &place, &block.values)
+}
+
+/// Code-block `j` of those of a precinct cut into layers: what was coded ahead, where that is of the same
+/// code-block, or what is coded now.
+fn layered_part(
+    alloc: Global,
+    source: &WrittenComponent<'_>,
+    strip: Strip<'_>,
+    part: &RowPart,
+    j: u32,
+    ahead: &mut CodedBlocks,
+) -> Result<LayeredBlock, Fault>
+    requires strip { IsWholeRow source.now strip }
+    requires part { IsRowPart source.now strip part.now }
+    requires j { IsOfPart source.now strip part.now.precinct j }
+    requires ahead { IsCodedAhead ahead.old }
+    ensures value { IfOk result (λ k. k
+        ≡ layered_at source.now (row_values strip.entry) strip.entry.resolution part.now.precinct strip.entry.band j) }
+    ensures ahead { IsCodedAhead ahead.new }
+    ensures memory { IfErr result IsMemory }
+{
+    if let Some(next) = ahead.next_in(source.layers()) {
+        if is_part(source, strip, part, j, &next.block) {
+            return Ok(next.coded);
+        }
+    }
+    let block = cut_part(alloc, source, strip, part, j)?;
+    code_block(alloc, &block, source.layers())
+}
+
 /// Codes the code-blocks that a precinct has of a row of them, and puts them behind the ones above.
 fn code_part(
     alloc: Global,
@@ -139,8 +200,8 @@ fn code_part(
         return Ok(());
     };
     for k in 0..part.grid.across {
-        let block = cut_part(alloc, source, strip, &part, part.first + k)?;
-        coded.push(ahead.layered(alloc, &block, source.layers())?)?;
+        let j = part.first + k;
+        coded.push(layered_part(alloc, source, strip, &part, j, ahead)?)?;
     }
     Ok(())
 }

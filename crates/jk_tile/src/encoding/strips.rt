@@ -18,6 +18,7 @@ use crate::bands::orientation;
 use crate::decoding::block_exponent;
 use crate::encoding::ahead::{CodedBlocks, UncodedBlocks};
 use crate::encoding::component::WrittenComponent;
+use crate::encoding::cutting::cut;
 use crate::encoding::lists::add_lists;
 use crate::encoding::row_coding::{Strip, code_strip, list_strip};
 use crate::encoding::tables::LayeredBlock;
@@ -36,14 +37,6 @@ pub enum When {
     Later,
 }
 
-/// Some of the numbers of a list.
-fn cut(numbers: &[i32], front: usize, count: usize) -> &[i32]
-    requires { front + count ≤ length numbers.now }
-    ensures { result.now ≡ take count (drop front numbers.now) }
-{
-    &numbers[front..front + count]
-}
-
 /// Whether row `y` of a sub-band is the first of a row of code-blocks, which are `2^exponent` high, or
 /// stands behind the last row.
 fn is_start(area: &Rect, y: u32, exponent: u8) -> bool
@@ -53,13 +46,16 @@ fn is_start(area: &Rect, y: u32, exponent: u8) -> bool
     area.y1 <= y || y % (1u32 << exponent) == 0
 }
 
-/// Makes a list of numbers room for those that come, where there is none.
-fn keep_room(numbers: &mut Vec<i32>, room: Vec<i32>)
+/// Makes a list that is done with room for the numbers that come, where there are none yet, and else for
+/// those of the list behind it, which is `next`.
+fn keep_room(numbers: &mut Vec<i32>, next: &mut Vec<i32>, room: Vec<i32>)
     ensures { numbers.new.items ≡ numbers.old.items }
 {
     if numbers.is_empty() {
         *numbers = room;
         numbers.clear();
+    } else {
+        *next = room;
     }
 }
 
@@ -85,6 +81,8 @@ pub(crate) struct BandStrips {
     pub(crate) area: Rect,
     /// The coefficients there, row by row.
     pub(crate) strip: Vec<i32>,
+    /// Room for the coefficients of the rows below those.
+    pub(crate) room: Vec<i32>,
     /// The code-blocks that are coded, precinct by precinct.
     pub(crate) blocks: Vec<Vec<LayeredBlock>>,
     /// How many bits the greatest magnitude of all rows has.
@@ -123,6 +121,7 @@ impl BandStrips {
                 ..area
             },
             strip: Vec::new(alloc),
+            room: Vec::new(alloc),
             blocks,
             bits: 0,
         })
@@ -139,7 +138,9 @@ impl BandStrips {
             → HasRowsOf s f self.new) }
         ensures memory { IfErr result IsMemory }
     {
-        let values = mem::replace(&mut self.strip, Vec::new(alloc));
+        let mut room = mem::replace(&mut self.room, Vec::new(alloc));
+        room.clear();
+        let values = mem::replace(&mut self.strip, room);
         self.waiting.push(WaitingRow {
             area: self.area,
             values,
@@ -149,7 +150,7 @@ impl BandStrips {
     }
 
     /// Codes the first of the rows of code-blocks that wait. Its list becomes room for the rows that
-    /// come, where none of these waits.
+    /// come.
     fn code_first(
         &mut self,
         alloc: Global,
@@ -177,7 +178,7 @@ impl BandStrips {
         };
         code_strip(alloc, source, strip, ahead, &mut self.blocks)?;
         self.top = row.area.y1;
-        keep_room(&mut self.strip, row.values);
+        keep_room(&mut self.strip, &mut self.room, row.values);
         Ok(())
     }
 

@@ -28,10 +28,11 @@ loop-k-preserved c =
           (subst (λ (f : ComponentFrame). HasTileSamples f (tile_value p s.parameters.now.colour) x) source (own.rows (tile_value p s.parameters.now.colour)));
     }
 
+pub returns-clause-count : goal.returns-clause-count
+returns-clause-count c = let count = c.loop-k.invariant.count in omega (arith, count, c.loop-k-test.false, c.loop-k.auto.k-end)
+
 pub returns-clause-tiles : goal.returns-clause-tiles
-returns-clause-tiles c =
-    let count = c.loop-k.invariant.count in
-    record { count = omega (arith, count, c.loop-k-test.false, c.loop-k.auto.k-end); each = λ k other lt. c.loop-k.invariant.each k other (omega (arith, lt, c.loop-k-test.false)) }
+returns-clause-tiles c k other lt = let count = c.loop-k.invariant.count in c.loop-k.invariant.each k other (omega (arith, lt, count))
 
 pub returns-clause-rows : goal.returns-clause-rows
-returns-clause-rows c p k other lt = c.loop-k.invariant.rows p k other (omega (arith, lt, c.loop-k-test.false))
+returns-clause-rows c p k other lt = let count = c.loop-k.invariant.count in c.loop-k.invariant.rows p k other (omega (arith, lt, count))

@@ -16,7 +16,7 @@ give-requires-clause-standing c =
     let x = c.index_mut.result.now in
     let lt : k < length all = omega (arith, c.loop-k-test.true, c.len-k-end.ensures) in
     let first : x ≡ get_or all k x = c.index_mut.ensures.value ∙ c.loop-k.invariant.left k x (omega arith) in
-    let was : IsFallingTile c.args.coming.now (c.args.first + k) c.args.stripe.now.y0 x = subst (IsFallingTile c.args.coming.now (c.args.first + k) c.args.stripe.now.y0) (sym first) (c.requires.tiles.each k x lt) in
+    let was : IsFallingTile c.args.coming.now (c.args.first + k) c.args.stripe.now.y0 x = subst (IsFallingTile c.args.coming.now (c.args.first + k) c.args.stripe.now.y0) (sym first) (c.requires.tiles k x lt) in
     subst (λ (f : ComponentFrame). IsStandingTile f x) (sym c.component_at-source.ensures) was.standing
 
 pub give-requires-clause-count : goal.give-requires-clause-count
@@ -26,7 +26,7 @@ give-requires-clause-count c =
     let x = c.index_mut.result.now in
     let lt : k < length all = omega (arith, c.loop-k-test.true, c.len-k-end.ensures) in
     let first : x ≡ get_or all k x = c.index_mut.ensures.value ∙ c.loop-k.invariant.left k x (omega arith) in
-    let was : IsFallingTile c.args.coming.now (c.args.first + k) c.args.stripe.now.y0 x = subst (IsFallingTile c.args.coming.now (c.args.first + k) c.args.stripe.now.y0) (sym first) (c.requires.tiles.each k x lt) in
+    let was : IsFallingTile c.args.coming.now (c.args.first + k) c.args.stripe.now.y0 x = subst (IsFallingTile c.args.coming.now (c.args.first + k) c.args.stripe.now.y0) (sym first) (c.requires.tiles k x lt) in
     let many : length c.args.stripe.now.planes ≡ c.args.coming.now.frame.components = ap (λ (f : PictureFrame). f.components) c.requires.stripe in
     was.components ∙ sym many
 
@@ -43,7 +43,7 @@ give-requires-clause-stripe c =
     let x = c.index_mut.result.now in
     let lt : k < length all = omega (arith, c.loop-k-test.true, c.len-k-end.ensures) in
     let first : x ≡ get_or all k x = c.index_mut.ensures.value ∙ c.loop-k.invariant.left k x (omega arith) in
-    let was : IsFallingTile c.args.coming.now (c.args.first + k) c.args.stripe.now.y0 x = subst (IsFallingTile c.args.coming.now (c.args.first + k) c.args.stripe.now.y0) (sym first) (c.requires.tiles.each k x lt) in
+    let was : IsFallingTile c.args.coming.now (c.args.first + k) c.args.stripe.now.y0 x = subst (IsFallingTile c.args.coming.now (c.args.first + k) c.args.stripe.now.y0) (sym first) (c.requires.tiles k x lt) in
     subst (λ (f : ComponentFrame). IsStripeOf f c.index_mut.result.now.y c.args.stripe.now) (sym c.component_at-source.ensures)
     (stripe_of_tile c.args.coming.now (c.args.first + k) c.index_mut.result.now.y c.args.stripe.now c.requires.stripe (sym was.next) (c.requires.lower k lt))
 
@@ -84,7 +84,7 @@ loop-k-preserved c =
     let lt : k < length all = omega (arith, c.loop-k-test.true, c.len-k-end.ensures) in
     let here : k < length held = omega (arith, lt, count) in
     let first : x ≡ get_or all k x = c.index_mut.ensures.value ∙ now.left k x (omega arith) in
-    let was : IsFallingTile s (c.args.first + k) v.y0 x = subst (IsFallingTile s (c.args.first + k) v.y0) (sym first) (c.requires.tiles.each k x lt) in
+    let was : IsFallingTile s (c.args.first + k) v.y0 x = subst (IsFallingTile s (c.args.first + k) v.y0) (sym first) (c.requires.tiles k x lt) in
     let source = c.component_at-source.ensures in
     record {
       count = length-set held k new ∙ count;
@@ -97,3 +97,13 @@ loop-k-preserved c =
           (subst (λ (f : ComponentFrame). HasTileSamples f (tile_value p s.parameters.now.colour) x) (sym source) (subst (HasTileSamples (component_of s (c.args.first + k)) (tile_value p s.parameters.now.colour)) (sym first) (has k x lt)))
           (subst (λ (f : ComponentFrame). GivesTile f s.parameters.now.colour v (tile_value p s.parameters.now.colour)) (sym source) (stripe_gives s (c.args.first + k) p v c.requires.coming same c.requires.stripe rows))));
     }
+
+pub returns-clause-tiles : goal.returns-clause-tiles
+returns-clause-tiles c k other lt =
+    let count = c.loop-k.invariant.count in
+    c.loop-k.invariant.done k other (omega (arith, lt, count, c.loop-k-test.false, c.len-k-end.ensures))
+
+pub returns-clause-rows : goal.returns-clause-rows
+returns-clause-rows c p same rows has k other lt =
+    let count = c.loop-k.invariant.count in
+    c.loop-k.invariant.rows p same rows has k other (omega (arith, lt, count, c.loop-k-test.false, c.len-k-end.ensures))

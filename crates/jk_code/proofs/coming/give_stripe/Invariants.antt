@@ -15,6 +15,6 @@ invariant-loop-k l = record {
   done : (k : ℕ) (other : FallingTile) → k < l.k → IsFallingTile l.coming (l.first + k) (l.stripe.y0 + l.stripe.height) (get_or l.tiles.items k other);
   left : (k : ℕ) (other : FallingTile) → l.k ≤ k → get_or l.tiles.items k other ≡ get_or l.fn.tiles.items k other;
   rows : (p : Picture) → frame_of p ≡ l.coming.frame → l.stripe ≡ rows_of p l.stripe.y0 (l.stripe.y0 + l.stripe.height)
-      → HaveRows l.coming l.first (length l.fn.tiles.items) p l.fn.tiles.items → (k : ℕ) (other : FallingTile) → k < l.k
+      → HaveRows l.coming l.first p l.fn.tiles.items → (k : ℕ) (other : FallingTile) → k < l.k
       → HasTileSamples (component_of l.coming (l.first + k)) (tile_value p l.coming.parameters.now.colour) (get_or l.tiles.items k other);
 }

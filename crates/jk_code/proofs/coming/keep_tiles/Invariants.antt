@@ -10,6 +10,6 @@ invariant-loop-tile l = record {
   few : length l.fallen.items ≤ length l.fn.fallen.items + length l.fn.tiles.items;
   left : l.tile-iterator.rest.items ≡ drop (length l.fallen.items - length l.fn.fallen.items) l.fn.tiles.items;
   fallen : AreFallen l.coming (length l.fallen.items) l.fallen.items;
-  rows : (p : Picture) → HaveRows l.coming (length l.fn.fallen.items) (length l.fn.tiles.items) p l.fn.tiles.items
+  rows : (p : Picture) → HaveRows l.coming (length l.fn.fallen.items) p l.fn.tiles.items
       → AreCoded l.coming (length l.fn.fallen.items) p l.fn.fallen.items → AreCoded l.coming (length l.fallen.items) p l.fallen.items;
 }

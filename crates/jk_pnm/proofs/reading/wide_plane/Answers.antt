@@ -1,14 +1,28 @@
-use Rattle.std.proofs.Common.{◌≡◌, ◌*◌, ◌+◌, ◌<◌, ℕ, ℤ, pos, get_or, to_z, w32, arith}
-use Rattle.std.proofs.lemmas.Int.{to_z_pos}
-use Rattle.jk_pnm.proofs.PlaneLaws.{sample_more}
+use Rattle.std.proofs.Common.{ℕ, ℤ, List, ◌*◌, ◌+◌, pos, get_or, map, sym, ap, ◌∙◌, arith}
+use Rattle.std.specs.List.{range_with_len}
+use Rattle.jk_pnm.proofs.PlaneLaws.{filled}
 use Rattle.jk_pnm.proofs.reading.wide_plane.Goals as goal
 
-pub loop-pixel-preserved : goal.loop-pixel-preserved
-loop-pixel-preserved c =
-    let i = c.loop-pixel.pixel in
-    let at : ℕ → ℕ = λ pixel. 2 * (pixel * c.args.components + c.args.component) in
-    let sample : ℕ → ℤ = λ pixel. pos (256 * get_or c.args.raster.now (at pixel) 0 + get_or c.args.raster.now (at pixel + 1) 0) in
-    let high : get_or c.args.raster.now (at i) 0 < 256 = omega (arith, c.type_inv.raster (at i)) in
-    let low : get_or c.args.raster.now (at i + 1) 0 < 256 = omega (arith, c.type_inv.raster (at i + 1)) in
-    let value : to_z w32 (256 * get_or c.args.raster.now (at i) 0 + get_or c.args.raster.now (at i + 1) 0) ≡ sample i = to_z_pos w32 (256 * get_or c.args.raster.now (at i) 0 + get_or c.args.raster.now (at i + 1) 0) (omega arith) in
-    sample_more sample i c.loop-pixel.samples.items c.push.new.self.items _ c.loop-pixel.invariant c.in_ok-push.ensures.items value
+-- the sample of a pixel
+abbrev wide_sample : (raster : List ℕ) → (components component pixel : ℕ) → ℤ
+wide_sample raster components component pixel =
+    pos (256 * get_or raster (2 * (pixel * components + component)) 0 + get_or raster (2 * (pixel * components + component) + 1) 0)
+
+pub returns-then-components-eq1-clause-value : goal.returns-then-components-eq1-clause-value
+returns-then-components-eq1-clause-value c =
+    let all = c.in_ok-samples.samples in
+    let lent = c.deref_mut.ensures.len in
+    let count = c.put_wide.ensures.count in
+    let len = c.in_ok-samples.ensures.len in
+    filled (wide_sample c.args.raster.now 1 c.args.component) c.put_wide.new.samples all.items all.len c.args.pixels
+    (omega (arith, count, lent, len)) len (λ k lt. c.put_wide.ensures.each k (omega (arith, lt, lent, len)))
+    ∙ ap (λ (n : ℕ). map (wide_sample c.args.raster.now n c.args.component) (range_with_len 0 c.args.pixels)) (sym c.if-components-eq1.true)
+
+pub returns-clause-value : goal.returns-clause-value
+returns-clause-value c =
+    let all = c.in_ok-samples.samples in
+    let lent = c.deref_mut-2.ensures.len in
+    let count = c.put_wide-2.ensures.count in
+    let len = c.in_ok-samples.ensures.len in
+    filled (wide_sample c.args.raster.now c.args.components c.args.component) c.put_wide-2.new.samples all.items all.len c.args.pixels
+    (omega (arith, count, lent, len)) len (λ k lt. c.put_wide-2.ensures.each k (omega (arith, lt, lent, len)))

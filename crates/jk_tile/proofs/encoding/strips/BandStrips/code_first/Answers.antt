@@ -9,11 +9,11 @@ code_strip-requires-clause-strip c =
 pub returns-clause-holds : goal.returns-clause-holds
 returns-clause-holds c =
     let b = c.args.self.now in
-    coded_holds c.args.source.now b c.remove-row.result c.remove-row.new.self c.deref.result.now c.keep_room.new.numbers c.code_strip.new.coded c.requires.holds
+    coded_holds c.args.source.now b c.remove-row.result c.remove-row.new.self c.deref.result.now c.keep_room.new.numbers c.keep_room.new.next c.code_strip.new.coded c.requires.holds
     (record { waiting = first_removed b.waiting.items c.remove-row.new.self.items c.remove-row.result c.requires.some c.remove-row.ensures.value c.remove-row.ensures.items; values_are = c.deref.ensures.value; strip_is = c.keep_room.ensures; count = c.in_ok-code_strip.ensures.count; blocks_are = c.in_ok-code_strip.ensures.coded })
 
 pub returns-clause-rows : goal.returns-clause-rows
 returns-clause-rows c f has =
     let b = c.args.self.now in
-    coded_rows c.args.source.now f b c.remove-row.result c.remove-row.new.self c.deref.result.now c.keep_room.new.numbers c.code_strip.new.coded c.requires.holds.0
+    coded_rows c.args.source.now f b c.remove-row.result c.remove-row.new.self c.deref.result.now c.keep_room.new.numbers c.keep_room.new.next c.code_strip.new.coded c.requires.holds.0
     (record { waiting = first_removed b.waiting.items c.remove-row.new.self.items c.remove-row.result c.requires.some c.remove-row.ensures.value c.remove-row.ensures.items; values_are = c.deref.ensures.value; strip_is = c.keep_room.ensures; count = c.in_ok-code_strip.ensures.count; blocks_are = c.in_ok-code_strip.ensures.coded }) has

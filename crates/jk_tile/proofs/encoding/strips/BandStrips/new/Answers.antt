@@ -17,6 +17,7 @@ returns-clause-holds c =
       waiting = c.new.result;
       area = record { x0 = c.band-area.result.x0; y0 = c.band-area.result.y0; x1 = c.band-area.result.x1; y1 = c.band-area.result.y0 };
       strip = c.new-2.result;
+      room = c.new-3.result;
       blocks = c.add_lists.new.lists;
       bits = 0;
     } in
@@ -44,6 +45,7 @@ returns-clause-rows c f =
       waiting = c.new.result;
       area = record { x0 = c.band-area.result.x0; y0 = c.band-area.result.y0; x1 = c.band-area.result.x1; y1 = c.band-area.result.y0 };
       strip = c.new-2.result;
+      room = c.new-3.result;
       blocks = c.add_lists.new.lists;
       bits = 0;
     } in
