@@ -144,24 +144,30 @@ fn encode_read<W: World>(
 const SOME_BYTES: u64 = 1 << 20;
 
 /// The same for several workers, to whom a small image gives few stripes.
-const MORE_BYTES: u64 = 1 << 22;
+const MORE_BYTES: u64 = 1 << 21;
 
-/// The same for several workers and other code-blocks than those of 64 by 64: what is done of each
-/// beside its coding, or the rows that wait for the last one of a high one, take more than the whole image.
+/// The same for several workers and very small or high code-blocks: what is done of each small one
+/// beside its coding, and the rows that wait for the last one of a high one, take longer than the whole
+/// image.
 const MANY_BYTES: u64 = 1 << 26;
+
+/// Whether code-blocks are smaller than those of 16 by 16, or higher than those of 64 by 64.
+fn is_small_or_high(plan: &Plan) -> bool {
+    let parameters = &plan.parameters;
+    parameters.xcb as u32 + (parameters.ycb as u32) < 8 || parameters.ycb > 6
+}
 
 /// Whether so many workers encode the image of a file of so many bytes, if it is known how many, whole.
 fn is_whole(size: Option<u64>, workers: usize, plan: &Plan) -> bool {
-    let parameters = &plan.parameters;
     let least = if workers == 1 {
         SOME_BYTES
-    } else if parameters.xcb == 6 && parameters.ycb == 6 {
-        MORE_BYTES
-    } else {
+    } else if is_small_or_high(plan) {
         MANY_BYTES
+    } else {
+        MORE_BYTES
     };
     match size {
-        Some(size) => size < least && parameters.tile.is_none(),
+        Some(size) => size < least && plan.parameters.tile.is_none(),
         None => false,
     }
 }

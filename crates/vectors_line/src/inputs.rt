@@ -122,44 +122,81 @@ fn reads_row_by_row_what_it_reads_whole(rt: HostRuntime) {
     }
 }
 
-/// The coding style of code-blocks of 32 by 64 without levels.
-static NARROW: &str = "FF52 000C 00 00 0001 00 00 03 04 00 01";
-
 /// How many bytes the file of a pixel has, on both sides of what is encoded whole, options, and how
 /// many files are read as they are encoded.
-static SIZES: [(usize, &str, usize); 9] = [
+static SIZES: [(usize, &str, usize); 8] = [
     (1_048_575, "", 0),
     (1_048_575, "--workers 2", 0),
     (1_048_576, "", 1),
     (1_048_576, "--workers 2", 0),
-    (4_194_303, "--workers 2", 0),
-    (4_194_304, "--workers 2", 1),
-    (4_194_304, "--workers 2 --block-x 5", 0),
+    (2_097_151, "--workers 2", 0),
+    (2_097_152, "--workers 2", 1),
     (100, "--tile-width 1 --tile-height 1", 1),
     (100, "--tile-width 1 --tile-height 1 --workers 2", 1),
 ];
+
+/// The sides of code-blocks, how they are written (T.800 table A.18), and how many files of 2 MiB are
+/// read as two workers encode them.
+static BLOCKS: [(&str, &str, usize); 3] = [
+    (
+        "--block-x 2 --block-y 5",
+        "FF52 000C 00 00 0001 00 00 00 03 00 01",
+        0,
+    ),
+    (
+        "--block-x 2 --block-y 6",
+        "FF52 000C 00 00 0001 00 00 00 04 00 01",
+        1,
+    ),
+    (
+        "--block-x 5 --block-y 7",
+        "FF52 000C 00 00 0001 00 00 03 05 00 01",
+        0,
+    ),
+];
+
+/// Encodes a pixel whose file has a comment and so many bytes.
+fn check_size<R: Abort + Threads + Sync>(
+    rt: &R,
+    alloc: Global,
+    size: usize,
+    options: &str,
+    due: &[u8],
+    count: usize,
+) {
+    let end = bytes(rt, alloc, &["0A", GREY]);
+    let mut image = bytes(rt, alloc, &["50350A23"]);
+    image
+        .resize(size.saturating_sub(10), 0x78)
+        .expect(rt, "a comment");
+    image
+        .extend_from_slice(&end[end.len().saturating_sub(10)..])
+        .expect(rt, "an image");
+    let mut world = world_with(rt, alloc, &image);
+    let line = format!(in alloc; "encode in out --levels 0 {options}").expect(rt, "a text");
+    check_done(rt, &mut world, line.as_str(), due, count);
+}
 
 /// A small file is read whole, if its image isn't cut into tiles.
 #[test]
 fn sizes_and_tiles_say_how_a_file_is_read(rt: HostRuntime) {
     let alloc = rt.alloc();
-    let end = bytes(&rt, alloc, &["0A", GREY]);
+    let due = bytes(&rt, alloc, &pixel());
     for (size, options, count) in SIZES {
-        let mut image = bytes(&rt, alloc, &["50350A23"]);
-        image
-            .resize(size.saturating_sub(10), 0x78)
-            .expect(&rt, "a comment");
-        image
-            .extend_from_slice(&end[end.len().saturating_sub(10)..])
-            .expect(&rt, "an image");
+        check_size(&rt, alloc, size, options, &due, count);
+    }
+}
+
+/// So is, by several workers, a larger one in very small or high code-blocks.
+#[test]
+fn code_blocks_say_how_a_file_is_read(rt: HostRuntime) {
+    let alloc = rt.alloc();
+    for (sides, coding, count) in BLOCKS {
         let mut due = pixel();
-        if options.ends_with("--block-x 5") {
-            due[3] = NARROW;
-        }
+        due[3] = coding;
         let due = bytes(&rt, alloc, &due);
-        let mut world = world_with(&rt, alloc, &image);
-        let line = format!(in alloc; "encode in out --levels 0 {options}").expect(&rt, "a text");
-        check_done(&rt, &mut world, line.as_str(), &due, count);
+        let options = format!(in alloc; "--workers 2 {sides}").expect(&rt, "a text");
+        check_size(&rt, alloc, 2_097_152, options.as_str(), &due, count);
     }
 }
 
