@@ -4,10 +4,12 @@
  * REFUSE_AT      the number of the growth or start that is refused, from 1 on; none: nothing is
  * REFUSE_ON      1: all behind it are refused too
  * REFUSE_COUNT   a file that is told, when the program ends, how many there were; and what was refused: `growth`,
- *                `thread` or `none`, as soon as something is */
+ *                `shrink`, where a list that has the room asks for no more of it, `thread` or `none`, as soon as something
+ *                is */
 #define _GNU_SOURCE
 #include <errno.h>
 #include <link.h>
+#include <malloc.h>
 #include <pthread.h>
 #include <dlfcn.h>
 #include <fcntl.h>
@@ -95,7 +97,8 @@ void *malloc(size_t size)
 
 void *realloc(void *old, size_t size)
 {
-    if (is_refused(__builtin_return_address(0), "growth")) {
+    const char *kind = old && size <= malloc_usable_size(old) ? "shrink" : "growth";
+    if (is_refused(__builtin_return_address(0), kind)) {
         errno = ENOMEM;
         return NULL;
     }

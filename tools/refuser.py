@@ -7,7 +7,7 @@ from collections import namedtuple
 from common import ROOT
 
 # How a run ended: its status, or None where it didn't end in time; what it wrote; how many growths it made; and what
-# was refused: `growth`, `thread` or `none`.
+# was refused: `growth`, `shrink` (a list is to be no longer), `thread` or `none`.
 Run = namedtuple("Run", "status out told count refused seconds")
 
 

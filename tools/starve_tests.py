@@ -30,6 +30,10 @@ WRITER = "the test's own writer has no memory: a failed write"
 EARLY = "one connection ends early"
 FEWER = "one worker fewer"
 UNSHRUNK = "the lists of packed entries keep the room that they have"
+UNWRITTEN = "the line of the refused file can't be written"
+UNSHOWN = "F1 is told, which the test doesn't show"
+TELLER = "the test's own standard error has no memory for all that is told"
+GROWN = "where the room that a list is due is refused, it grows"
 DISK = "the test's disk in memory can't note a call, or copy bytes: a call of the system fails"
 IN_MEMORY = "vectors_files (?!.*(of_the_system|device))"
 OTHERWISE = (
@@ -64,14 +68,22 @@ OTHERWISE = (
     ("vectors_hall ways::", PASSES, FEWER),
     ("vectors_hall limits::", r"left: \(\d+, 0\)\n right: \(655\d\d, [01]\)", EARLY),
     # Archives.
-    ("vectors_(hall|store) refusals::", PASSES, UNSHRUNK),
-    ("vectors_store first_faults::one_file_too_many", PASSES, UNSHRUNK),
+    ("vectors_hall refusals::", PASSES, UNSHRUNK),
+    ("vectors_store by_parts::", PASSES, KEPT),
+    ("vectors_store (failing::checking|opened_with::)", PASSES, FEWER),
+    ("vectors_store opened_with::two_jobs", r"left: \(\d, false\)\n right: \(\d, true\)", FEWER),
+    ("vectors_store dressed::what_a_file_keeps", r'left: \((.*), "none", (\d)\)\n right: \(\1, "dressed", \2\)', OWN),
+    ("vectors_store (listing::files_are|prepared::(images_are|the_first))", PASSES, "a name is refused in any case"),
+    ("vectors_store opened_with::where_memory", PASSES, "it is the test's own case, and takes F1 for right"),
+    ("vectors_store prepared::images_are_stored", r"left: \((.*), (None, .*|.*, None)\)\n right: \(\1, ", OWN),
+    ("vectors_store serving::a_window_that_is_kept", r"left: HTTP(.|\n)*HTTP/1.1 500 (.|\n)*\n right: ", KEPT),
     ("vectors_store adding::a_rename_that_fails", "an image: Shelf", "the call that fails comes in the next try"),
     ("vectors_store failing::adding", "an image: Shelf", "the call that fails comes in the next try"),
     ("vectors_store failing::checking", r'left: "(.* )?\?( .*)?"\n right: "a (whole|unread) b ', "F1 is written as ?"),
     ("vectors_store by_parts::where_a_part_has_changed", LESS, "the test counts F1 as no answer"),
     ("vectors_store directories::files_of_a_directory", PASSES, OWN),
     ("vectors_store directories::files_of_a_directory", r'left: "(\.\./b)?"\n right: "(c\.jp2)?"', OWN),
+    ("vectors_store directories::an_archive", PASSES, "the name of a file that can't be read isn't kept"),
     ("vectors_store serving::", PASSES, KEPT),
     # Requests and replies.
     ("vectors_web caching::", r"left: \d+\n right: \d+", KEPT),
@@ -103,7 +115,40 @@ OTHERWISE = (
     ("vectors_stored ", r"left: \(?(false|None)\b", "a window that is refused isn't known"),
     ("vectors_stored ", r"left: \(true, false\)\n right: \(true, true\)", "the same window of all bytes is refused"),
     ("vectors_stored ends::written_behind", r"left: Some\(Err\(Shelf\)\)", WRITER),
+    # Command lines.
+    ("vectors_line ", r'"jk: F20 Shelf\\n"\)\n  left: \(Refused, .*\n right: \(Done, ', WRITER),
+    ("vectors_line (outputs|telling)::", r'left: \(Refused, "jk: F20 Shelf\\n"\)\n right: \(Done, ""', WRITER),
+    ("vectors_line ", r'", "(?!jk: F20 Shelf\\n").*"\)\n  left: \((\w+), true, false\)\n right: \(\1, true, true\)',
+     TELLER),
+    ("vectors_line lines::lines_are_judged", r"left: \(WrongLine, 0, true\)\n right: \(WrongLine, 0, false\)", TELLER),
+    ("vectors_line numbers::negative_numbers", r"left: \(WrongLine, 0, false\)\n right: \(WrongLine, 0, true\)",
+     TELLER),
+    ("vectors_line lines::lines_are_judged", r"left: \(Refused, 0, false\)\n right: \(WrongLine, 0, false\)", UNSHOWN),
+    ("vectors_line lines::lines_are_judged", PASSES, "a word that is like the wrong one isn't told"),
+    ("vectors_line adding::lines_that_are_wrong", r"left: \(Refused, true, 0\)\n right: \(WrongLine, true, 0\)",
+     UNSHOWN),
+    ("vectors_line adding::lines_that_are_wrong", PASSES, TELLER),
+    ("vectors_line adding::files_", r'", ""\)\n  left: \(Refused, false, true\)', "F1 is told on standard output"),
+    ("vectors_line adding::lines_that_cant", r"left: \(false, 1\)\n right: \(true, 2\)", UNWRITTEN),
+    ("vectors_line adding::lines_that_cant", "the folder is given back", UNWRITTEN),
+    ("vectors_line adding::lines_that_cant", PASSES, "of the refused file no line is due"),
+    ("vectors_line (adding|keeping|lines)::", r"a folder: .*\n  left: \(false, (\d)\)\n right: \(true, \1\)", OWN),
+    ("vectors_line (adding::lines_that_add|numbers::negative_n)", PASSES,
+     "words of a failure fewer, which aren't asked for"),
+    ("vectors_line adding::files_", PASSES, "one worker fewer, or a file that is refused in any case"),
+    ("vectors_line inputs::reads_row", r"left: \(Refused, 0\)\n right: \(Done, 0\)", UNSHOWN),
+    ("vectors_line progress::code_blocks_are_counted", r"left: \(Done, [0-5]\)\n right: \(Done, [36]\)",
+     "what isn't coded by workers isn't told"),
+    ("vectors_line (inputs|keeping|lines|outputs|progress|telling)::", PASSES,
+     "one worker fewer, or words of a failure fewer; or " + GROWN),
+    ("vectors_line progress::work_is_told_of", r"left: \((\w+), false, 1, (\w+)\)\n right: \(\1, true, 1, \2\)", OWN),
     ("vectors_line windows::", PASSES, "the whole file is read instead"),
+    ("vectors_line windows::windows_of_files_are_those",
+     r"left: \(Done, Refused, [01], 0\)\n right: \(Done, Done, [01], 0\)", UNSHOWN),
+    ("vectors_line windows::windows_of_files_are_those", r"left: false\n right: true", UNSHOWN),
+    ("vectors_line windows::windows_of_files_are_told_of", r"left: \(Refused, ([01]), \1, ", UNSHOWN),
+    ("vectors_line windows::windows_of_files_are_told_of", r"left: \(Done, 0, 1, None\)", OWN),
+    ("vectors_line windows::windows_of_files_are_told_of", r"left: \(Done, 2, 2, ", "the whole file is read instead"),
     ("vectors_rows by_workers::", PASSES, FEWER),
     ("vectors_rows by_workers::two_code", r"left: false\n right: true", FEWER),
     ("vectors_rows (drawings|encoding::files|suiting)", PASSES, "what was coded keeps the room in which it grew"),
@@ -180,10 +225,17 @@ def says_memory(said):
     return re.search(r'Memory|OutOfMemory|AllocError|AllocFailed|error: "memory"', said)
 
 
+def tells_memory(test, said):
+    """Whether a command line was refused and told F1: tests of vectors_line show beside a claim what was told."""
+    case = re.search(r'", "(?:jk: .*: |jk: )?F1 Memory\\n.*"\)\n  left: .*Refused', said)
+    return test.crate == "vectors_line" and case and not says_memory(sides(said)[1])
+
+
 def is_front(said):
-    """Whether what was found is the beginning of what was due."""
+    """Whether what was found is the beginning of what was due: a text, or a list of numbers."""
     left, right = ("" if it == "[]" else it for it in sides(said))
-    return len(left) < len(right) and right.startswith(left)
+    beginning = left[:-1] + "," if left.startswith("[") and left.endswith("]") else left
+    return len(left) < len(right) and right.startswith(beginning)
 
 
 def is_less(said):
@@ -196,7 +248,10 @@ def is_less(said):
 def is_so(said, text):
     if text == PASSES:
         return not said
-    return said and (is_front(said) if text == FRONT else is_less(said) if text == LESS else re.search(text, said))
+    if text == FRONT:
+        # Of two lists one alone may be spelled.
+        return said and (is_front(said) or is_front(spelled(said)))
+    return said and (is_less(said) if text == LESS else re.search(text, spelled(said)))
 
 
 def otherwise(test, said):
@@ -209,9 +264,13 @@ def answer_of(test, run):
     """How a test ended, or what isn't right."""
     if run.status is None:
         return "WRONG: it doesn't end"
+    if run.status == 0 and run.refused in ("shrink", "thread"):
+        # The list keeps the room that it has, or there is a worker fewer.
+        return ON
     if run.status == 0:
         return ON if otherwise(test, "") else "WRONG: it passes, as if nothing had been refused"
-    said = spelled((run.out + run.told).decode(errors="replace"))
+    raw = (run.out + run.told).decode(errors="replace")
+    said = spelled(raw)
     if run.status not in (101, -6):
         return f"WRONG: status {run.status}, {said[-160:]!r}"
     behind = next((text for name, *texts in BEHINDS if f"{test.crate} {test.name}" == name
@@ -219,11 +278,11 @@ def answer_of(test, run):
     if behind:
         return BEHIND
     left, right = sides(said)
-    if says_memory(left) and not says_memory(right):
+    if says_memory(left) and not says_memory(right) or tells_memory(test, said):
         return MEMORY
     if re.search(r"WorkerFailed|SpawnError", left) and not re.search(r"WorkerFailed|SpawnError", right):
         return FAILED
-    return ON if otherwise(test, said) else f"WRONG: {said.strip()[-300:]!r}"
+    return ON if otherwise(test, raw) else f"WRONG: {said.strip()[-300:]!r}"
 
 
 # Running.
