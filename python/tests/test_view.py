@@ -12,7 +12,7 @@ import time
 import pytest
 
 # It lists the files of its folder, replies to what is asked of them with the words of the request, and ends where it
-# is asked for /images/end. In a folder with a file `slow` it is long in starting.
+# is asked for /images/end. In a folder with a file `slow` it is long in starting; no file `bad` is an image.
 STAND_IN = f"""#!{sys.executable}
 import http.server, os, sys, time
 folder = sys.argv[2]
@@ -40,7 +40,8 @@ if os.path.exists(os.path.join(folder, "slow")):
     time.sleep(60)
 server = http.server.ThreadingHTTPServer(("127.0.0.1", 0), Replies)
 print("jk: odd.jp2 isn't listed: F2 Truncated", file=sys.stderr)
-print(f"jk: serving http://127.0.0.1:{{server.server_port}}/", file=sys.stderr, flush=True)
+count = sum(not name.startswith("bad") for name in os.listdir(folder))
+print(f"jk: {{count}} images on http://127.0.0.1:{{server.server_port}}/images", file=sys.stderr, flush=True)
 server.serve_forever()
 """
 
@@ -136,6 +137,18 @@ def test_the_page_is_served(site):
             assert shown.get(path)[0] == 404, path
     finally:
         shown.end()
+    ended(site, shown)
+
+
+def test_files_of_which_none_is_an_image_are_told(site):
+    for name in ("bad-1.jp2", "bad-2.jp2"):
+        (site / name).write_bytes(b"")
+    shown = Shown(site, site / "bad-1.jp2", site / "bad-2.jp2")
+    _, told = shown.child.communicate(timeout=20)
+    assert (shown.child.returncode, told) == (2, "jk: odd.jp2 isn't listed: F2 Truncated\njk.view: no image to show\n")
+    assert running(site) == [] and os.listdir(shown.room) == []
+    shown = Shown(site, site / "bad-1.jp2", site / "One Page.jp2")
+    assert shown.end()[0] == 0
     ended(site, shown)
 
 

@@ -1,8 +1,8 @@
 //! The tiles of an image whose rows come, with workers: they code the code-blocks of the rows before
-//! while this thread keeps what they coded last, takes the next rows and lists their code-blocks.
+//! while this thread keeps what was coded last, takes the next rows and lists their code-blocks, and then
+//! codes too.
 
 ghost use Rattle.std.specs.Prelude.{◌≡◌, ◌≤◌, ◌⊎◌, IfOk, IfErr, OnOk};
-ghost use Rattle.std.specs.Thread.{IsSync};
 ghost use Rattle.jk_math.specs.Memory.{IsMemory};
 ghost use Rattle.jk_math.specs.Picture.{Picture};
 ghost use Rattle.jk_tile.specs.encoding.Ahead.{AreUncoded, IsCodedAhead};
@@ -17,11 +17,10 @@ use crate::encoding_rows::RowSupply;
 use crate::team::Team;
 use jk_jobs::Gate;
 use jk_math::Fault;
-use jk_tile::{CodedBlocks, FallenTile, UncodedBlocks, When, code_blocks};
+use jk_tile::{CodedBlocks, FallenTile, UncodedBlocks, When, code_blocks, code_blocks_beside};
 use std::alloc::Global;
 use std::marker::Sync;
-use std::mem;
-use std::thread::{Threads, join_mut};
+use std::thread::Threads;
 
 /// The code-blocks that workers are to code next, and what they coded of those before and isn't kept yet.
 #[derive(Drop)]
@@ -105,8 +104,8 @@ fn take_next<S: RowSupply>(
     list_tiles(alloc, coming, walk, listed)
 }
 
-/// Takes the next stripe of rows of a walk, while workers code the code-blocks of the one before and this
-/// thread keeps what they coded of the one before that.
+/// Takes the next stripe of rows of a walk, while workers code the code-blocks of the one before; this
+/// thread keeps what was coded of the one before that, takes the rows, and then codes too.
 fn give_next_with<R: Threads + Sync, G: Gate + Sync, S: RowSupply>(
     team: &Team<'_, R, G>,
     alloc: Global,
@@ -123,15 +122,7 @@ fn give_next_with<R: Threads + Sync, G: Gate + Sync, S: RowSupply>(
     ensures err { IfErr result (λ e. IsMemory e ⊎ S.met supply.old e supply.new) }
 {
     let listed = work.uncoded.counts(alloc)?;
-    let mut uncoded = work.uncoded;
     let mut ahead = work.coded;
-    let mut before = || -> CodedBlocks
-        requires { IsSync R.row × IsSync G.row × AreUncoded uncoded }
-        ensures { IsCodedAhead result }
-    {
-        let blocks = mem::replace(&mut uncoded, UncodedBlocks::new(alloc, 0));
-        code_blocks::<R, G>(team.workers, alloc, team.gate, blocks)
-    };
     let mut here = || -> Result<UncodedBlocks, Fault>
         requires coming { IsComing coming.now }
         requires before { IsBeforeStep S.framed S.next S.gave coming.now supply.now walk.now }
@@ -141,7 +132,13 @@ fn give_next_with<R: Threads + Sync, G: Gate + Sync, S: RowSupply>(
             walk.entry.now walk.exit.now) }
         ensures err { IfErr result (λ e. IsMemory e ⊎ S.met supply.entry.now e supply.exit.now) }
     { take_next(alloc, coming, walk, &mut ahead, &listed, supply) };
-    let (coded, given) = join_mut(team.workers.rt, &mut before, &mut here);
+    let (coded, given) = code_blocks_beside::<R, G, _, _>(
+        team.workers,
+        alloc,
+        team.gate,
+        work.uncoded,
+        &mut here,
+    );
     Ok(TeamWork {
         uncoded: given?,
         coded,

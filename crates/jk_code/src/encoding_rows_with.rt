@@ -57,7 +57,8 @@ fn put_rows_with<R: Threads + Sync, G: Gate + Sync, S: RowSupply, W: Write>(
 
 /// What [`encode_rows`](crate::encode_rows) writes and tells, with workers who code the code-blocks of
 /// a stripe side by side while the next one is taken and goes down through the levels; `supply` gives
-/// it in the thread that calls. It takes the memory of the code-blocks of three stripes beside that.
+/// it in the thread that calls, which then codes too. It takes the memory of the code-blocks of three
+/// stripes beside that.
 ///
 /// The gate of `team` is told of each code-block that the workers code, when it begins and when it has
 /// ended: its number is that among those of its stripe. Small code-blocks are told of together, as many

@@ -21,6 +21,9 @@ pub(crate) fn next_end(end: u32, last: u32, step: u32) -> u32
     ensures to { result ≤ last }
     ensures odd { result < last → result % 2 ≡ 1 }
     ensures inside { result < last → result + 1 < last }
+    // So many rows, or one or two more; fewer at the end alone.
+    ensures most { result ≤ end + step + 2 }
+    ensures least { result < last → end + step ≤ result }
 {
     if end == last {
         return last;

@@ -76,6 +76,9 @@ pub(crate) fn step_end(y: u32, end: u32, step: u32) -> u32
     ensures to { result ≤ end }
     ensures odd { result < end → result % 2 ≡ 1 }
     ensures inside { result < end → result + 1 < end }
+    // So many rows, or one or two more; fewer at the end alone.
+    ensures most { result ≤ y + step + 2 }
+    ensures least { result < end → y + step ≤ result }
 {
     let to = y.saturating_add(step);
     let odd = to - to % 2 + 1;

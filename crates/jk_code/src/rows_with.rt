@@ -1,8 +1,7 @@
 //! Decoding row by row with workers: they decode the code-blocks of the next rows while this thread
-//! makes the rows before.
+//! makes the rows before, and then decodes too.
 
 ghost use Rattle.std.specs.Prelude.{◌≡◌, ℕ, ◌+◌, ◌^◌, ◌<◌, ◌≤◌, ◌⊎◌, length, Ok, Err, IfOk, IfErr, OnOk};
-ghost use Rattle.std.specs.Thread.{IsSync};
 ghost use Rattle.jk_math.specs.Answer.{Answers};
 ghost use Rattle.jk_math.specs.Memory.{IsMemory};
 ghost use Rattle.jk_math.specs.Picture.{Picture};
@@ -21,10 +20,10 @@ use crate::rows::{Rows, TileRow, give_next, tile_of, tiles_across, told};
 use crate::team::Team;
 use jk_jobs::Gate;
 use jk_math::Fault;
-use jk_tile::{BlockSegment, DecodedBlocks, Workers, decode_segments};
+use jk_tile::{BlockSegment, DecodedBlocks, Workers, decode_segments, decode_segments_beside};
 use std::alloc::Global;
 use std::marker::Sync;
-use std::thread::{Threads, join_mut};
+use std::thread::Threads;
 
 /// The code-blocks of rows `y` up to `end` of a row of tiles.
 fn stripe_blocks(
@@ -109,11 +108,6 @@ fn give_next_with<R: Threads + Sync, G: Gate + Sync, S: Rows>(
     let decoded = decoded_next(team, alloc, coded, walk, decoded)?;
     let behind = next_end(walk.end, walk.area.y1, walk.step);
     let segments = stripe_blocks(alloc, coded, &walk.row, walk.end, behind)?;
-    let bytes = coded.bytes;
-    let mut ahead = || -> DecodedBlocks
-        requires { IsSync R.row × IsSync G.row × AreSegments (length bytes.now) segments.items }
-        ensures { AreDecoded bytes.entry.now result }
-    { decoded_by(team, alloc, bytes, &segments) };
     let mut here = || -> Result<(), Fault>
         requires decoded { AreDecoded coded.now.bytes decoded }
         requires walk { IsRowWalk coded.now walk.now }
@@ -125,7 +119,14 @@ fn give_next_with<R: Threads + Sync, G: Gate + Sync, S: Rows>(
             rows.entry.now rows.exit.now) }
         ensures cause { IfErr result (λ e. IsMemory e ⊎ (e ≡ Shelf) ⊎ HasFaultAt coded.entry.now e) }
     { give_next(alloc, coded, walk, &decoded, rows) };
-    let (next, given) = join_mut(team.workers.rt, &mut ahead, &mut here);
+    let (next, given) = decode_segments_beside::<R, G, _, _>(
+        team.workers,
+        alloc,
+        team.gate,
+        coded.bytes,
+        &segments,
+        &mut here,
+    );
     given?;
     Ok(next)
 }
@@ -155,7 +156,8 @@ fn give_rows_with<R: Threads + Sync, G: Gate + Sync, S: Rows>(
 
 /// What [`decode_rows`](crate::decode_rows) gives and tells, with workers who decode the code-blocks of
 /// a stripe side by side while the rows of the one before are made and given; `rows` takes them in the
-/// thread that calls. It takes the memory of the code-blocks of two stripes beside those rows.
+/// thread that calls, which then decodes too. It takes the memory of the code-blocks of two stripes
+/// beside those rows.
 ///
 /// `gate` is told of each code-block that the workers decode, when it begins and when it has ended: its
 /// number is that among those of its stripe.

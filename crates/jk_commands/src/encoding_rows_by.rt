@@ -20,6 +20,10 @@ use std::io::Write;
 use std::marker::Sync;
 use std::thread::Threads;
 
+/// How many rows more a step of workers has than its rows of code-blocks of the highest resolution, whose
+/// last coefficients depend on rows below them. So there are code-blocks to be coded behind the first step.
+const ROWS_BELOW: u32 = 8;
+
 /// Encodes the rows of an image, by this thread alone where the team has one worker; the clauses are
 /// those of `jk_code::encode_rows`.
 pub(crate) fn encode_rows_by<R: Threads + Sync, G: Gate + Sync, S: RowSupply, W: Write>(
@@ -44,6 +48,6 @@ pub(crate) fn encode_rows_by<R: Threads + Sync, G: Gate + Sync, S: RowSupply, W:
     if workers == 1 {
         return encode_rows(alloc, frame, parameters, ROWS, supply, writer);
     }
-    let step = rows_for(frame.width, frame.components, workers);
+    let step = rows_for(frame.width, frame.components, workers).saturating_add(ROWS_BELOW);
     encode_rows_with(team, alloc, frame, parameters, step, supply, writer)
 }

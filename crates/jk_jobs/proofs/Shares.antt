@@ -58,12 +58,11 @@ module _ {J D : Type 0} (gives : J → Result D Fault → Type 0) (jobs : List J
 pub shares_long : {X E : Type 0} (items : List X) (shares : List (Result X E)) → map Ok items ≡ shares → length items ≡ length shares
 shares_long items shares e = sym (length-map items Ok) ∙ ap (λ (xs : List _). length xs) e
 
--- each share of a list of those that were given
-pub all_taken : {X E : Type 0} (P : X → Type 0) (n : ℕ) (items : List X) (shares : List (Result X E)) → map Ok items ≡ shares → length shares ≡ n
-    → ((i : ℕ) (d : Result X E) → i < n → IfOk (get_or shares i d) P) → All P items
-all_taken {X} {E} P n items shares e long each k d lt =
+-- each of the shares, all of which were given
+pub all_ok : {X E : Type 0} (P : X → Type 0) (items : List X) (shares : List (Result X E)) → map Ok items ≡ shares → All (λ (r : Result X E). IfOk r P) shares → All P items
+all_ok {X} {E} P items shares e each k d lt =
     let here : get_or shares k (Ok d) ≡ Ok (get_or items k d) = ap (λ (xs : List (Result X E)). get_or xs k (Ok d)) (sym e) ∙ get_or-map Ok items k d (Ok d) lt in
-    subst (λ (r : Result X E). IfOk r P) here (each k (Ok d) (omega (arith, lt, long, shares_long items shares e)))
+    subst (λ (r : Result X E). IfOk r P) here (each k (Ok d) (omega (arith, lt, shares_long items shares e)))
 
 -- the front of what is left of a list, which isn't all of it
 pub front_of : {X : Type 0} (xs rest : List X) (n : ℕ) (x d : X) → x ∷ rest ≡ drop n xs → (n < length xs) × (get_or xs n d ≡ x) × (rest ≡ drop (n + 1) xs)

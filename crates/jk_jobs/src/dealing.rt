@@ -14,7 +14,7 @@ use jk_math::{Fault, Refused};
 use std::alloc::Global;
 use std::sync::atomic::{AtomicUsize, Ordering};
 use std::thread;
-use std::thread::Threads;
+use std::thread::{Threads, join_mut};
 
 /// A job that a worker has done: its number, and what it gave.
 #[derive(Drop)]
@@ -23,13 +23,16 @@ pub(crate) struct Taken<D> {
     pub(crate) given: Result<D, Fault>,
 }
 
+/// What a worker's jobs gave, if it wasn't refused memory.
+type Share<D> = Result<Vec<Taken<D>>, Refused>;
+
 /// What a worker's jobs give. It takes the next job that nobody has, until there is none.
 fn share<W: Work, G: Gate>(
     alloc: Global,
     gate: &G,
     jobs: &[W::Job],
     next: &AtomicUsize,
-) -> Result<Vec<Taken<W::Done>>, Refused>
+) -> Share<W::Done>
     requires jobs { All W.accepts jobs.now }
     ensures taken { IfOk result (λ v. AreTaken W.gives jobs.now v.items) }
 {
@@ -162,6 +165,43 @@ fn are_allowed(workers: usize) -> bool
     1 <= workers && workers <= 64
 }
 
+/// What so many workers' jobs give, side by side as far as threads can be had.
+fn shares<W: Work + Sync, R: Threads + Sync, G: Gate + Sync>(
+    rt: &R,
+    alloc: Global,
+    count: usize,
+    gate: &G,
+    jobs: &[W::Job],
+    next: &AtomicUsize,
+) -> Result<Vec<Share<W::Done>>, Fault>
+    requires count { count ≤ 64 }
+    requires jobs { All W.accepts jobs.now }
+    ensures taken { IfOk result (λ v. All (λ s. IfOk s (λ w. AreTaken W.gives jobs.now w.items)) v.items) }
+    ensures memory { IfErr result IsMemory }
+{
+    let share_of = |_worker: usize| -> Share<W::Done>
+        requires { IsSync G.row × IsSync W.Job.row × IsSend W.Done.row × All W.accepts jobs.now }
+        ensures { IfOk result (λ v. AreTaken W.gives jobs.entry.now v.items) }
+    { share::<W, G>(alloc, gate, jobs, next) };
+    Ok(thread::map_indices(rt, alloc, count, &share_of)?)
+}
+
+/// What jobs give, in their order, or the fault of the least job that has one, from what those gave
+/// that were taken; the others are done now.
+fn gathered<W: Work>(
+    alloc: Global,
+    jobs: &[W::Job],
+    shares: Vec<Share<W::Done>>,
+) -> Result<Vec<W::Done>, Fault>
+    requires jobs { All W.accepts jobs.now }
+    requires taken { All (λ s. IfOk s (λ w. AreTaken W.gives jobs.now w.items)) shares.items }
+    ensures given { MatchResult result (λ v. AreGiven W.gives jobs.now (length jobs.now) v.items)
+        (λ e. IsMemory e ⊎ IsFirstFault W.gives jobs.now e) }
+{
+    let slots = filled::<W>(alloc, jobs, collected(alloc, shares)?)?;
+    merged::<W>(alloc, jobs, slots)
+}
+
 /// What jobs give, in their order, or the fault of the least job that has one. So many workers do
 /// them side by side as far as threads can be had, each the next one that nobody has taken.
 fn dealt<W: Work + Sync, R: Threads + Sync, G: Gate + Sync>(
@@ -179,13 +219,63 @@ fn dealt<W: Work + Sync, R: Threads + Sync, G: Gate + Sync>(
 {
     let count = workers.min(jobs.len()).max(1);
     let next = AtomicUsize::new(0);
-    let share_of = |_worker: usize| -> Result<Vec<Taken<W::Done>>, Refused>
-        requires { IsSync G.row × IsSync W.Job.row × IsSend W.Done.row × All W.accepts jobs.now }
-        ensures { IfOk result (λ v. AreTaken W.gives jobs.entry.now v.items) }
-    { share::<W, G>(alloc, gate, jobs, &next) };
-    let shares = thread::map_indices(rt, alloc, count, &share_of)?;
-    let slots = filled::<W>(alloc, jobs, collected(alloc, shares)?)?;
-    merged::<W>(alloc, jobs, slots)
+    let shares = shares::<W, R, G>(rt, alloc, count, gate, jobs, &next)?;
+    gathered::<W>(alloc, jobs, shares)
+}
+
+/// What jobs give, from what the workers' gave and what those of this thread did.
+fn gathered_here<W: Work>(
+    alloc: Global,
+    jobs: &[W::Job],
+    shares: Result<Vec<Share<W::Done>>, Fault>,
+    own: Share<W::Done>,
+) -> Result<Vec<W::Done>, Fault>
+    requires jobs { All W.accepts jobs.now }
+    requires taken { IfOk shares (λ v. All (λ s. IfOk s (λ w. AreTaken W.gives jobs.now w.items)) v.items) }
+    requires memory { IfErr shares IsMemory }
+    requires own { IfOk own (λ w. AreTaken W.gives jobs.now w.items) }
+    ensures given { MatchResult result (λ v. AreGiven W.gives jobs.now (length jobs.now) v.items)
+        (λ e. IsMemory e ⊎ IsFirstFault W.gives jobs.now e) }
+{
+    let mut all = shares?;
+    all.push(own)?;
+    gathered::<W>(alloc, jobs, all)
+}
+
+/// What jobs give, which workers do beside `here`, and what that gives.
+fn dealt_beside<W: Work + Sync, R: Threads + Sync, G: Gate + Sync, H: FnMut() -> T, T>(
+    rt: &R,
+    alloc: Global,
+    workers: usize,
+    gate: &G,
+    jobs: &[W::Job],
+    here: &mut H,
+) -> (Result<Vec<W::Done>, Fault>, T)
+    requires few { workers ≤ 64 }
+    requires jobs { All W.accepts jobs.now }
+    requires here { H.pre here.old }
+    ensures given { MatchResult result.0 (λ v. AreGiven W.gives jobs.now (length jobs.now) v.items)
+        (λ e. IsMemory e ⊎ IsFirstFault W.gives jobs.now e) }
+    ensures here { H.step here.old result.1 here.new }
+{
+    let count = workers.min(jobs.len());
+    let next = AtomicUsize::new(0);
+    let mut others = || -> Result<Vec<Share<W::Done>>, Fault>
+        requires { IsSync R.row × IsSync G.row × IsSync W.Job.row × IsSend W.Done.row × (count ≤ 64) × All W.accepts jobs.now }
+        ensures taken { IfOk result (λ v. All (λ s. IfOk s (λ w. AreTaken W.gives jobs.entry.now w.items)) v.items) }
+        ensures memory { IfErr result IsMemory }
+    { shares::<W, R, G>(rt, alloc, count, gate, jobs, &next) };
+    let mut first = || -> (T, Share<W::Done>)
+        requires jobs { All W.accepts jobs.now }
+        requires here { H.pre here.now }
+        ensures here { H.step here.entry.now result.0 here.exit.now }
+        ensures own { IfOk result.1 (λ w. AreTaken W.gives jobs.entry.now w.items) }
+    {
+        let given = here();
+        (given, share::<W, G>(alloc, gate, jobs, &next))
+    };
+    let (shares, (given, own)) = join_mut(rt, &mut others, &mut first);
+    (gathered_here::<W>(alloc, jobs, shares, own), given)
 }
 
 /// What jobs give, in their order, or the fault of the first job that has one. So many workers do
@@ -210,4 +300,33 @@ pub fn map_jobs<W: Work + Sync, R: Threads + Sync, G: Gate + Sync>(
         return Err(Fault::BadParameters);
     }
     dealt::<W, R, G>(rt, alloc, workers, gate, jobs)
+}
+
+/// What [`map_jobs`] gives, and what `here` does and gives meanwhile in the thread that calls, which
+/// takes jobs too when it has done that. Where there is no job no thread is started.
+///
+/// [`Fault::BadParameters`] in place of what jobs give: less than one worker or more than 64.
+pub fn map_jobs_beside<W: Work + Sync, R: Threads + Sync, G: Gate + Sync, H: FnMut() -> T, T>(
+    rt: &R,
+    alloc: Global,
+    workers: usize,
+    gate: &G,
+    jobs: &[W::Job],
+    here: &mut H,
+) -> (Result<Vec<W::Done>, Fault>, T)
+    requires jobs { All W.accepts jobs.now }
+    requires here { H.pre here.old }
+    ensures range { (1 ≤ workers → workers ≤ 64 → ⊥) → result.0 ≡ Err BadParameters }
+    ensures given { 1 ≤ workers → workers ≤ 64
+        → MatchResult result.0 (λ v. AreGiven W.gives jobs.now (length jobs.now) v.items)
+        (λ e. IsMemory e ⊎ IsFirstFault W.gives jobs.now e) }
+    ensures here { H.step here.old result.1 here.new }
+{
+    if !are_allowed(workers) {
+        return (Err(Fault::BadParameters), here());
+    }
+    if jobs.is_empty() {
+        return (Ok(Vec::new(alloc)), here());
+    }
+    dealt_beside::<W, R, G, H, T>(rt, alloc, workers, gate, jobs, here)
 }

@@ -5,6 +5,6 @@ mod dealing;
 mod gate;
 mod work;
 
-pub use dealing::map_jobs;
+pub use dealing::{map_jobs, map_jobs_beside};
 pub use gate::{Gate, Open};
 pub use work::Work;

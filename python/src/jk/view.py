@@ -20,7 +20,7 @@ import sys
 import tempfile
 import threading
 import webbrowser
-from typing import IO, Dict, Optional, Sequence
+from typing import IO, Dict, Optional, Sequence, Tuple
 
 HERE = os.path.dirname(os.path.abspath(__file__))
 REPOSITORY = os.path.dirname(os.path.dirname(os.path.dirname(HERE)))
@@ -89,7 +89,8 @@ def linked(paths: Sequence[str], folder: str) -> None:
 
 
 class Served:
-    """`jk serve` over a folder, and the port that it listens at. What it tells goes on to standard error."""
+    """`jk serve` over a folder, how many images it has, and the port that it listens at. What it tells goes on to
+    standard error."""
 
     def __init__(self, program: str, folder: str, workers: int) -> None:
         words = [program, "serve", folder, "--port", "0", "--workers", str(workers)]
@@ -100,7 +101,7 @@ class Served:
         except OSError as error:
             raise CannotShow(f"{program}: {error.strerror}") from error
         try:
-            self.port = self.started(self.lines())
+            self.images, self.port = self.started(self.lines())
             threading.Thread(target=self.tell, daemon=True).start()
         except BaseException:
             self.end()
@@ -110,11 +111,11 @@ class Served:
         assert self.child.stderr is not None
         return self.child.stderr
 
-    def started(self, lines: IO[str]) -> int:
+    def started(self, lines: IO[str]) -> Tuple[int, int]:
         for line in lines:
-            found = re.search(r"http://127\.0\.0\.1:(\d+)/", line)
+            found = re.search(r"(\d+) images on http://127\.0\.0\.1:(\d+)/", line)
             if found:
-                return int(found[1])
+                return int(found[1]), int(found[2])
             sys.stderr.write(line)
         raise CannotShow(f"jk serve ended with the status {self.child.wait()}")
 
@@ -235,8 +236,11 @@ def folder_of(paths: Sequence[str], links: str) -> str:
 def show(asked: argparse.Namespace, links: str) -> int:
     """Serves the page until `jk serve` ends, whose status it gives."""
     files, program = files_of_page(asked.leaflet), program_of(asked.jk)
-    served = Served(program, folder_of(asked.paths, links), asked.workers)
+    folder = folder_of(asked.paths, links)
+    served = Served(program, folder, asked.workers)
     try:
+        if folder == links and served.images == 0:
+            raise CannotShow("no image to show")
         try:
             page = Page(asked.port, files, served.port)
         except OSError as error:

@@ -8,7 +8,7 @@ use crate::decoding::block::read_block;
 use crate::decoding::bodies::BodyPlace;
 use crate::workers::Workers;
 use jk_block::BlockShape;
-use jk_jobs::{Gate, Work, map_jobs};
+use jk_jobs::{Gate, Work, map_jobs, map_jobs_beside};
 use jk_math::Fault;
 use std::alloc::Global;
 use std::collections::BTreeMap;
@@ -230,6 +230,53 @@ pub fn decode_segments<R: Threads + Sync, G: Gate + Sync>(
     let jobs = jobs_of(alloc, bytes, segments)?;
     let groups = map_jobs::<SegmentJob<'_>, R, G>(workers.rt, alloc, workers.count, gate, &jobs)?;
     by_start(alloc, all_blocks(alloc, groups)?)
+}
+
+/// The code-blocks of what jobs gave, by where their bytes begin; none, where one of them has a fault or
+/// memory is refused.
+fn blocks_of(alloc: Global, groups: Result<Vec<Vec<DecodedBlock>>, Fault>) -> DecodedBlocks
+    ensures { (bytes : List ℕ) → IfOk groups (λ v. All (AreBlocksOf bytes) v.items) → AreDecoded bytes result }
+{
+    let Ok(groups) = groups else {
+        return DecodedBlocks::none(alloc);
+    };
+    let Ok(blocks) = all_blocks(alloc, groups) else {
+        return DecodedBlocks::none(alloc);
+    };
+    match by_start(alloc, blocks) {
+        Ok(decoded) => decoded,
+        Err(_) => DecodedBlocks::none(alloc),
+    }
+}
+
+/// What [`decode_segments`] gives, none where it has a fault or memory is refused, and what `here` does
+/// and gives meanwhile in the thread that calls, which decodes too when it has done that.
+pub fn decode_segments_beside<R: Threads + Sync, G: Gate + Sync, H: FnMut() -> T, T>(
+    workers: &Workers<'_, R>,
+    alloc: Global,
+    gate: &G,
+    bytes: &[u8],
+    segments: &[BlockSegment],
+    here: &mut H,
+) -> (DecodedBlocks, T)
+    requires segments { All (IsBlockSegment (length bytes.now)) segments.now }
+    requires here { H.pre here.old }
+    ensures decoded { AreDecoded bytes.now result.0 }
+    ensures here { H.step here.old result.1 here.new }
+{
+    let jobs = match jobs_of(alloc, bytes, segments) {
+        Ok(jobs) => jobs,
+        Err(_) => return (DecodedBlocks::none(alloc), here()),
+    };
+    let (groups, given) = map_jobs_beside::<SegmentJob<'_>, R, G, H, T>(
+        workers.rt,
+        alloc,
+        workers.count,
+        gate,
+        &jobs,
+        here,
+    );
+    (blocks_of(alloc, groups), given)
 }
 
 impl DecodedBlocks {

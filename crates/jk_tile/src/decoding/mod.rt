@@ -24,7 +24,7 @@ pub use chains::{PacketChains, packets_by_precinct};
 pub use coded::CodedTile;
 pub use colour::uncolour;
 pub use component::CodedComponent;
-pub use decoded::{BlockSegment, DecodedBlocks, decode_segments};
+pub use decoded::{BlockSegment, DecodedBlocks, decode_segments, decode_segments_beside};
 pub use filling::put;
 pub use jobs::decode_blocks_with;
 pub use judging::judge_tile;

@@ -11,7 +11,7 @@ ghost use Rattle.jk_tile.specs.encoding.Ahead.{IsCodable, layered_block, AreUnco
 use crate::encoding::tables::LayeredBlock;
 use crate::workers::Workers;
 use jk_block::{Block, code};
-use jk_jobs::{Gate, Work, map_jobs};
+use jk_jobs::{Gate, Work, map_jobs, map_jobs_beside};
 use jk_math::Fault;
 use std::alloc::Global;
 use std::marker::Sync;
@@ -174,24 +174,19 @@ fn coded_lists<R: Threads + Sync, G: Gate + Sync>(
     joined(alloc, blocks.len(), lists)
 }
 
-/// Codes code-blocks side by side by workers. Where memory is refused none is coded, which then are
-/// coded with their rows.
-///
-/// `gate` is told of each job, when it begins and when it has ended: of each code-block, or of some
-/// small ones together.
-pub fn code_blocks<R: Threads + Sync, G: Gate + Sync>(
-    workers: &Workers<'_, R>,
+/// Code-blocks with what was coded of them, the last one first; none, where that was refused memory.
+fn with_coded(
     alloc: Global,
-    gate: &G,
     uncoded: UncodedBlocks,
+    coded: Result<Vec<LayeredBlock>, Fault>,
 ) -> CodedBlocks
-    requires { AreUncoded uncoded }
+    requires { IfOk coded (λ v. v.items ≡ reverse (map (layered_block uncoded.layers) uncoded.blocks.items)) }
     ensures { IsCodedAhead result }
 {
     let layers = uncoded.layers;
     let mut rows = uncoded.rows;
     rows.reverse();
-    match coded_lists::<R, G>(workers, alloc, gate, layers, &uncoded.blocks) {
+    match coded {
         Ok(coded) => {
             let mut blocks = uncoded.blocks;
             blocks.reverse();
@@ -209,6 +204,76 @@ pub fn code_blocks<R: Threads + Sync, G: Gate + Sync>(
             rows,
         },
     }
+}
+
+/// Codes code-blocks side by side by workers. Where memory is refused none is coded, which then are
+/// coded with their rows.
+///
+/// `gate` is told of each job, when it begins and when it has ended: of each code-block, or of some
+/// small ones together.
+pub fn code_blocks<R: Threads + Sync, G: Gate + Sync>(
+    workers: &Workers<'_, R>,
+    alloc: Global,
+    gate: &G,
+    uncoded: UncodedBlocks,
+) -> CodedBlocks
+    requires { AreUncoded uncoded }
+    ensures { IsCodedAhead result }
+{
+    let coded = coded_lists::<R, G>(workers, alloc, gate, uncoded.layers, &uncoded.blocks);
+    with_coded(alloc, uncoded, coded)
+}
+
+/// What is coded of code-blocks side by side by workers beside `here`, the last one first, and what
+/// that gives.
+fn coded_beside<R: Threads + Sync, G: Gate + Sync, H: FnMut() -> T, T>(
+    workers: &Workers<'_, R>,
+    alloc: Global,
+    gate: &G,
+    layers: u16,
+    blocks: &[Block],
+    here: &mut H,
+) -> (Result<Vec<LayeredBlock>, Fault>, T)
+    requires blocks { All IsCodable blocks.now }
+    requires here { H.pre here.old }
+    ensures coded { IfOk result.0 (λ v. v.items ≡ reverse (map (layered_block layers) blocks.now)) }
+    ensures here { H.step here.old result.1 here.new }
+{
+    let jobs = match groups(alloc, layers, blocks) {
+        Ok(jobs) => jobs,
+        Err(fault) => return (Err(fault), here()),
+    };
+    let (lists, given) = map_jobs_beside::<GroupJob<'_>, R, G, H, T>(
+        workers.rt,
+        alloc,
+        workers.count,
+        gate,
+        &jobs,
+        here,
+    );
+    match lists {
+        Ok(lists) => (joined(alloc, blocks.len(), lists), given),
+        Err(fault) => (Err(fault), given),
+    }
+}
+
+/// What [`code_blocks`] gives, and what `here` does and gives meanwhile in the thread that calls, which
+/// codes too when it has done that.
+pub fn code_blocks_beside<R: Threads + Sync, G: Gate + Sync, H: FnMut() -> T, T>(
+    workers: &Workers<'_, R>,
+    alloc: Global,
+    gate: &G,
+    uncoded: UncodedBlocks,
+    here: &mut H,
+) -> (CodedBlocks, T)
+    requires uncoded { AreUncoded uncoded }
+    requires here { H.pre here.old }
+    ensures coded { IsCodedAhead result.0 }
+    ensures here { H.step here.old result.1 here.new }
+{
+    let (layers, blocks) = (uncoded.layers, &uncoded.blocks);
+    let (coded, given) = coded_beside::<R, G, H, T>(workers, alloc, gate, layers, blocks, here);
+    (with_coded(alloc, uncoded, coded), given)
 }
 
 impl UncodedBlocks {

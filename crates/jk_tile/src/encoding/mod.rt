@@ -33,7 +33,7 @@ mod values;
 mod writing;
 mod written;
 
-pub use ahead::{CodedBlocks, UncodedBlocks, code_blocks};
+pub use ahead::{CodedBlocks, UncodedBlocks, code_blocks, code_blocks_beside};
 pub use component::WrittenComponent;
 pub use executor::{Executor, Parallel, Sequential};
 pub use fallen::FallenComponent;
