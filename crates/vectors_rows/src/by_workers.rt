@@ -10,6 +10,7 @@ use jk_math::{Fault, Image, Style};
 use jk_params::{Container, Parameters};
 use jk_tile::Workers;
 use std::alloc::Global;
+use std::sync::atomic::{AtomicUsize, Ordering};
 use std::test::Fail;
 use std::thread::Threads;
 use vectors::{Meeting, equal, equal_at};
@@ -28,6 +29,20 @@ impl Gate for Held {
     fn ended(&self, job: usize) {
         self.meeting.ended(job);
     }
+}
+
+/// A gate that counts the code-blocks of which it is told.
+#[derive(Drop)]
+pub(crate) struct Counted {
+    pub(crate) begun: AtomicUsize,
+}
+
+impl Gate for Counted {
+    fn began(&self, _job: usize) {
+        self.begun.fetch_add(1, Ordering::SeqCst);
+    }
+
+    fn ended(&self, _job: usize) {}
 }
 
 /// Keeps the samples of the first component, and how many rows each stripe has.
@@ -128,6 +143,26 @@ fn two_code_blocks_at_a_time(rt: HostRuntime) -> Result<(), Fail> {
     let is_due = planes.len() > 0 && rows.samples.as_slice() == planes.plane(0);
     equal(is_due, true).expect(&rt, "the samples");
     equal(held.meeting.was_met(1), true).expect(&rt, "the meeting");
+    Ok(())
+}
+
+/// Workers decode each code-block once, also those of the stripes behind the first one.
+#[test]
+fn each_code_block_is_decoded_once(rt: HostRuntime) -> Result<(), Fail> {
+    let alloc = rt.alloc();
+    let mut chance = Chance { state: 83 };
+    let mut planes = Vec::new(alloc);
+    planes.push(plane(alloc, &mut chance, 128 * 256, 8, false)?)?;
+    let image = Image::new(0, 0, 128, 256, 8, false, planes)?;
+    let file = encode(alloc, &image, &with_levels(alloc, 0))?;
+    let counted = Counted {
+        begun: AtomicUsize::new(0),
+    };
+    let rows = rows_by(&rt, alloc, 2, &counted, &file, 32)?;
+    let planes = image.planes();
+    let is_due = planes.len() > 0 && rows.samples.as_slice() == planes.plane(0);
+    equal(is_due, true).expect(&rt, "the samples");
+    equal(counted.begun.load(Ordering::SeqCst), 8).expect(&rt, "the code-blocks");
     Ok(())
 }
 

@@ -2,7 +2,7 @@
 
 ghost use Rattle.std.specs.Prelude.{◌≤◌};
 
-use crate::by_workers::{Held, noisy, with_levels};
+use crate::by_workers::{Counted, Held, noisy, with_levels};
 use crate::chance::{Chance, image, plane};
 use crate::encoding::{Supply, Written, any_parameters, kind, stripes_of_four, untiled, whole};
 use jk_code::{Team, encode_rows_with};
@@ -150,20 +150,6 @@ fn two_code_blocks_coded_at_a_time(rt: HostRuntime) -> Result<(), Fail> {
     equal(bytes.as_slice(), due.1.as_slice()).expect(&rt, "the file");
     equal(held.meeting.was_met(1), true).expect(&rt, "the meeting");
     Ok(())
-}
-
-/// A gate that counts the code-blocks of which it is told.
-#[derive(Drop)]
-struct Counted {
-    begun: AtomicUsize,
-}
-
-impl Gate for Counted {
-    fn began(&self, _job: usize) {
-        self.begun.fetch_add(1, Ordering::SeqCst);
-    }
-
-    fn ended(&self, _job: usize) {}
 }
 
 /// Workers code each code-block once, also where it waits while those of several stripes are coded.

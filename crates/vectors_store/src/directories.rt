@@ -182,6 +182,23 @@ fn fail_four<R: Files + Abort, S: Shelf>(
     ([unread, renamed, written, listed], folder.failures())
 }
 
+/// Whether each of these stretches of the file `b.jp2`, which has the bytes `next`, is what stands
+/// there: its place, how many bytes at most, and these.
+fn stretches<S: Shelf>(rt: &impl Abort, alloc: Global, folder: &mut S) {
+    let all: [(u64, usize, &[u8]); 5] = [
+        (0, 4, b"next"),
+        (1, 2, b"ex"),
+        (2, 9, b"xt"),
+        (3, 0, b""),
+        (4, 1, b""),
+    ];
+    for (start, most, wanted) in all {
+        let part = folder.read_at(alloc, "b.jp2", start, most);
+        let part = part.expect(rt, "a stretch");
+        equal_at(rt, (start, most), part.as_slice(), wanted);
+    }
+}
+
 #[test]
 fn files_of_a_directory(rt: HostRuntime) {
     let alloc = rt.alloc();
@@ -189,6 +206,7 @@ fn files_of_a_directory(rt: HostRuntime) {
     let mut folder = folder_in(rt, alloc, path.as_str());
     let first = write_and_rename(&rt, alloc, &mut folder);
     equal(&rt, first, (true, 1));
+    stretches(&rt, alloc, &mut folder);
     equal(&rt, trouble(&folder), "none");
     let failed = Some(Fault::Shelf);
     equal(&rt, read(&mut folder, alloc, "c.jp2").err(), failed);

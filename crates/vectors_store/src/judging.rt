@@ -53,8 +53,33 @@ fn names_beside_many(rt: HostRuntime) {
     let alloc = rt.alloc();
     let few = [beside(alloc, "4095", 4095), beside(alloc, "4094", 4095)];
     equal(&rt, few, [Ok(true), Err(Fault::NameTaken)]);
-    let full = [beside(alloc, "4096", 4096), beside(alloc, "D", 4096)];
-    equal(&rt, full, [Ok(false), Ok(false)]);
+    for name in ["4096", "D", "0000"] {
+        equal_at(&rt, name, beside(alloc, name, 4096), Ok(false));
+    }
+}
+
+/// What an archive says of a name that lists nothing of so many files `0000.jp2`, `0001.jp2` and so
+/// on.
+fn among(alloc: Global, name: &str, count: u16) -> Result<(), Fault> {
+    let shelf = alike(count, Vec::new(alloc));
+    Archive::with(shelf, Images::none(alloc)).judge_name(alloc, name)
+}
+
+/// Names, how many files there are, and what the archive says.
+static AMONG: [(&str, u16, Result<(), Fault>); 6] = [
+    ("4095", 4095, Ok(())),
+    ("4094", 4095, Err(Fault::NameTaken)),
+    ("D", 4095, Err(Fault::BadName)),
+    ("4096", 4096, Err(Fault::Limit)),
+    ("4095", 4096, Err(Fault::NameTaken)),
+    ("D", 4096, Err(Fault::BadName)),
+];
+
+#[test]
+fn names_among_many(rt: HostRuntime) {
+    for (name, count, wanted) in AMONG {
+        equal_at(&rt, (name, count), among(rt.alloc(), name, count), wanted);
+    }
 }
 
 /// What an archive lists that is opened when an image was added beside files that weren't read.

@@ -10,6 +10,7 @@ use jk_math::Fault;
 use jk_store::{Archive, Images, MemoryShelf, Shelf};
 use std::alloc::Global;
 use std::process::Abort;
+use std::sync::atomic::{AtomicUsize, Ordering};
 use std::thread::Threads;
 use vectors::Meeting;
 
@@ -156,6 +157,45 @@ fn two_jobs_at_a_time(rt: HostRuntime) {
         let found = (archive.list().len(), held.meeting.was_met(1));
         equal_at(&rt, workers, found, (6, true));
     }
+}
+
+/// A gate that counts the jobs that began, and knows the last number that one had.
+#[derive(Drop)]
+struct Counted {
+    begun: AtomicUsize,
+    last: AtomicUsize,
+}
+
+impl Gate for Counted {
+    fn began(&self, job: usize) {
+        self.begun.fetch_add(1, Ordering::SeqCst);
+        self.last.fetch_max(job, Ordering::SeqCst);
+    }
+
+    fn ended(&self, _job: usize) {}
+}
+
+/// In how many jobs two workers judge so many files of one byte, and the last number that one had:
+/// those that are judged together are numbered from 0.
+fn jobs_of<R: Threads + Sync + Abort>(rt: &R, alloc: Global, count: u16) -> (usize, usize) {
+    let counted = Counted {
+        begun: AtomicUsize::new(0),
+        last: AtomicUsize::new(0),
+    };
+    let shelf = alike(count, bytes(rt, alloc, Content::Byte));
+    let archive = open_with(rt, alloc, 2, &counted, shelf).expect(rt, "an archive");
+    equal(rt, archive.list().len(), 0);
+    (
+        counted.begun.load(Ordering::SeqCst),
+        counted.last.load(Ordering::SeqCst),
+    )
+}
+
+/// Not all files are read before any is judged: two workers judge 128 together, four in a job.
+#[test]
+fn files_that_are_judged_together(rt: HostRuntime) {
+    equal(&rt, jobs_of(&rt, rt.alloc(), 127), (32, 31));
+    equal(&rt, jobs_of(&rt, rt.alloc(), 256), (64, 31));
 }
 
 /// With all its memory this test sees nine files opened; a script beside the proofs refuses each
