@@ -29,6 +29,7 @@ OWN = "the test itself had no memory"
 WRITER = "the test's own writer has no memory: a failed write"
 EARLY = "one connection ends early"
 FEWER = "one worker fewer"
+UNTOLD = "what workers have no memory for is done, and not told, with its rows"
 UNSHRUNK = "the lists of packed entries keep the room that they have"
 UNWRITTEN = "the line of the refused file can't be written"
 UNSHOWN = "F1 is told, which the test doesn't show"
@@ -151,6 +152,12 @@ OTHERWISE = (
     ("vectors_line windows::windows_of_files_are_told_of", r"left: \(Done, 2, 2, ", "the whole file is read instead"),
     ("vectors_rows by_workers::", PASSES, FEWER),
     ("vectors_rows by_workers::two_code", r"left: false\n right: true", FEWER),
+    ("vectors_rows by_workers::each_code", r"the code-blocks: \n +left: [0-7]\n", UNTOLD),
+    ("vectors_rows encoding_by_workers::", PASSES, FEWER),
+    ("vectors_rows encoding_by_workers::", r"(left|right): Err\(Shelf\)", WRITER),
+    ("vectors_rows encoding_by_workers::two_code", r"the meeting: \n +left: false", FEWER),
+    ("vectors_rows encoding_by_workers::each_code", r"the code-blocks: \n +left: [0-7]\n", UNTOLD),
+    ("vectors_rows sources::", PASSES, GROWN),
     ("vectors_rows (drawings|encoding::files|suiting)", PASSES, "what was coded keeps the room in which it grew"),
     ("vectors_rows encoding::faults", PASSES, "the whole file is refused, and fewer rooms are tried"),
     ("vectors_rows (files|tests)::", PASSES, "an image that isn't encoded is passed over"),
@@ -162,6 +169,7 @@ OTHERWISE = (
     ("vectors_codec written_with::", PASSES, FEWER),
     ("vectors_codec written_with::two_code", r"left: false\n right: true", FEWER),
     ("vectors_workers ", PASSES, FEWER),
+    ("vectors_workers beside::who_calls", r"the meeting: \n +left: false", FEWER),
     ("vectors_workers decoded::two_stripes", r"at src/decoded\.rt:\d+:\d+\n[23] FF4F", FEWER),
     ("vectors_farm tests::two_are", r"test stopped at src/tests\.rt:\d+:\d+\n[23]$", FEWER),
 )

@@ -47,7 +47,7 @@ fn who_calls_takes_jobs_too(rt: HostRuntime) -> Result<(), Fail> {
         &rt, alloc, 1, &held, &NUMBERS, &mut here,
     );
     equal(told, 1).expect(&rt, "what is done beside them");
-    let is_due = squares.is_ok_and(|squares| squares.as_slice() == SQUARES.as_slice());
+    let is_due = squares?.as_slice() == SQUARES.as_slice();
     equal(is_due, true).expect(&rt, "the squares");
     equal(held.meeting.was_met(1), true).expect(&rt, "the meeting");
     equal(calls, 1).expect(&rt, "the calls");
@@ -71,7 +71,7 @@ fn jobs_in_their_order(rt: HostRuntime) -> Result<(), Fail> {
         let (squares, told) = map_jobs_beside::<Squares, _, _, _, _>(
             &rt, alloc, workers, &Open, numbers, &mut here,
         );
-        let is_due = squares.is_ok_and(|squares| squares.as_slice() == due);
+        let is_due = squares?.as_slice() == due;
         equal(is_due, true).expect(&rt, "the squares");
         equal(told, 1).expect(&rt, "what is done beside them");
     }
