@@ -10,8 +10,7 @@ use std::rt::Files;
 use vectors::{Line, Told, kilobytes};
 
 /// Width of the image and of its tiles, COD, QCD, what stands in front of SOD, the answer of `index`,
-/// and how many kilobytes are taken at most: for 65,535 tiles, in the last row, what an index keeps
-/// of each and what it had before it grew. Tile-part and file end behind one empty packet.
+/// and how many kilobytes are taken at most. Tile-part and file end behind one empty packet.
 static LIMITS: &str = "\
 00000001|00000001|000C 00 00 0001 00 00 04 04 00 01|0004 40 B0||Ok|4096
 00000001|00000001|000C 00 00 0001 00 00 04 04 00 01|0004 40 B8||F7 Limit|4096
@@ -24,8 +23,12 @@ static LIMITS: &str = "\
 00010000|00000001|000C 00 00 0001 00 00 04 04 00 01|0004 40 40||F5 BadValue|4096
 00000100|00000100|000D 01 00 FFFF 00 00 04 04 00 01 00|0004 40 40||F11 MissingPackets|4096
 00000101|00000101|000D 01 00 FFFF 00 00 04 04 00 01 00|0004 40 40||F7 Limit|4096
-00000101|00000101|000C 00 00 0001 00 00 04 04 00 01|0004 40 40|FF52 000D 01 00 FFFF 00 00 04 04 00 01 00|F7 Limit|4096
-0000FFFF|00000001|000C 00 00 0001 00 00 04 04 00 01|0004 40 40||F11 MissingPackets|20480";
+00000101|00000101|000C 00 00 0001 00 00 04 04 00 01|0004 40 40|FF52 000D 01 00 FFFF 00 00 04 04 00 01 00|F7 Limit|4096";
+
+/// The same of 65,535 tiles, the most that there may be. An index takes 160 bytes for each as it
+/// grows; an allocator with checks keeps what it had before, too.
+static TILES: &str =
+    "0000FFFF|00000001|000C 00 00 0001 00 00 04 04 00 01|0004 40 40||F11 MissingPackets|17408";
 
 /// The file of the first fields of a row. Psot is 0, so that its tile-part ends where the file does.
 fn file_of_row(rt: &impl Abort, alloc: Global, line: &mut Line<'_>) -> Vec<u8> {
@@ -89,12 +92,18 @@ static EMPTY: &str =
 /// takes 8 bytes a sample at most, with what is taken on the way.
 #[test]
 fn numbers_at_the_limits(rt: HostRuntime) {
+    let before = kilobytes(&rt, rt.alloc(), "VmSize:").expect(&rt, "memory");
     for row in LIMITS.split('\n') {
         is_answered(&rt, rt.alloc(), row);
     }
-    let before = kilobytes(&rt, rt.alloc(), "VmSize:").expect(&rt, "memory");
     let file = file_of(&rt, rt.alloc(), &[EMPTY]);
     let fault = decode(rt.alloc(), &file, 0).err();
     answers(&rt, rt.alloc(), "2,048 by 2,048", fault, "Ok");
     takes(&rt, rt.alloc(), before, 34_816);
+}
+
+/// This in a process of its own, so that no other memory is counted or hides it.
+#[test]
+fn as_many_tiles_as_there_may_be(rt: HostRuntime) {
+    is_answered(&rt, rt.alloc(), TILES);
 }
