@@ -2,7 +2,8 @@
 
 use crate::asserts::{equal, equal_at};
 use crate::calls::{
-    add_noise, by_kept_parts, by_parts, entry_whole, entry_window, open, put, read, square, write,
+    add, add_noise, by_kept_parts, by_parts, entry_whole, entry_window, open, put, read, square,
+    write,
 };
 use crate::shelves::{Act, act_at};
 use jk_math::Fault;
@@ -11,7 +12,10 @@ use jk_window::View;
 use std::alloc::Global;
 use std::process::Abort;
 
-/// The archive of one image `n`, 448 by 448 grey samples of noise in tiles of 64 by 64, and its
+/// The side of the image of noise, whose file has five parts.
+const SIDE: u32 = 256;
+
+/// The archive of one image `n`, 256 by 256 grey samples of noise in tiles of 64 by 64, and its
 /// file.
 #[derive(Drop)]
 struct Noise {
@@ -67,7 +71,7 @@ fn compared(rt: &impl Abort, alloc: Global, noise: &Noise, asked: View) -> (bool
 }
 
 /// Upper left corners and sides of windows, and how many parts each may need.
-static WINDOWS: [(u32, u32, u64); 4] = [(0, 1, 2), (130, 60, 3), (300, 16, 4), (0, 448, 100)];
+static WINDOWS: [(u32, u32, u64); 4] = [(0, 1, 2), (130, 60, 3), (200, 16, 4), (0, SIDE, 5)];
 
 #[test]
 fn of_their_parts_alone(rt: HostRuntime) {
@@ -156,7 +160,7 @@ fn with_one_turned(
     part: usize,
 ) -> (bool, Option<Fault>, bool, u64) {
     let entry = noise.entry(rt);
-    let asked = square(0, 448);
+    let asked = square(0, SIDE);
     let mut kept = HashedParts::new(alloc);
     let mut shelf = with_file(rt, alloc, "n.jp2", &noise.file);
     let first = by_kept_parts(entry, alloc, &mut shelf, &mut kept, asked).expect(rt, "a window");
@@ -177,7 +181,7 @@ fn with_one_turned(
 #[test]
 fn where_a_kept_part_has_changed(rt: HostRuntime) {
     let noise = made(&rt, rt.alloc());
-    let asked = square(0, 448);
+    let asked = square(0, SIDE);
     let (_same, stretches, _bytes) = compared(&rt, rt.alloc(), &noise, asked);
     let window = due(&rt, rt.alloc(), &noise, asked);
     for part in 0..noise.entry(&rt).parts.len() {
@@ -206,20 +210,62 @@ fn moved(rt: &impl Abort, alloc: Global, file: &[u8], by: u32) -> Vec<u8> {
     moved
 }
 
-/// A shelf of 24 such files.
-fn all_moved(rt: &impl Abort, alloc: Global, file: &[u8]) -> MemoryShelf {
-    let mut shelf = MemoryShelf::new(alloc);
-    for by in 0..24 {
-        let name = format!(in alloc; "{by:02}.jp2").expect(rt, "a name");
-        write(
-            rt,
-            &mut shelf,
-            alloc,
-            name.as_str(),
-            &moved(rt, alloc, file, by),
-        );
+/// How many such files there are, each fortieth of the image of noise and the others of one sample.
+const FILES: u32 = 264;
+
+/// The file of the image of noise, and that of one sample, which has one part.
+#[derive(Drop)]
+struct Files {
+    noise: Vec<u8>,
+    sample: Vec<u8>,
+}
+
+fn made_files(rt: &impl Abort, alloc: Global) -> Files {
+    let mut archive = open(rt, alloc, MemoryShelf::new(alloc));
+    add(rt, &mut archive, alloc, "s", 7);
+    let mut shelf = archive.into_shelf();
+    Files {
+        noise: made(rt, alloc).file,
+        sample: read(&mut shelf, alloc, "s.jp2").expect(rt, "a file"),
     }
-    shelf
+}
+
+/// Whether the file of this number is of the image of noise.
+fn is_noise(by: u32) -> bool {
+    by % 40 == 0
+}
+
+impl Files {
+    /// The file of this number: it tells so many bytes of text.
+    fn file(&self, rt: &impl Abort, alloc: Global, by: u32) -> Vec<u8> {
+        let file = if is_noise(by) {
+            &self.noise
+        } else {
+            &self.sample
+        };
+        moved(rt, alloc, file, by)
+    }
+
+    /// A shelf of them all.
+    fn shelf(&self, rt: &impl Abort, alloc: Global) -> MemoryShelf {
+        let mut shelf = MemoryShelf::new(alloc);
+        for by in 0..FILES {
+            let name = format!(in alloc; "{by:03}.jp2").expect(rt, "a name");
+            write(
+                rt,
+                &mut shelf,
+                alloc,
+                name.as_str(),
+                &self.file(rt, alloc, by),
+            );
+        }
+        shelf
+    }
+}
+
+/// The whole image of the file of this number.
+fn whole(by: u32) -> View {
+    square(0, if is_noise(by) { SIDE } else { 1 })
 }
 
 /// Whether the whole image of an entry is what is cut of the whole file.
@@ -229,26 +275,25 @@ fn is_whole(
     entry: &Entry,
     shelf: &mut MemoryShelf,
     kept: &mut HashedParts,
+    by: u32,
 ) -> bool {
-    let asked = square(0, 448);
-    let window = by_kept_parts(entry, alloc, shelf, kept, asked).expect(rt, "a window");
-    let due = entry_window(entry, alloc, shelf, asked).expect(rt, "a window");
+    let window = by_kept_parts(entry, alloc, shelf, kept, whole(by)).expect(rt, "a window");
+    let due = entry_window(entry, alloc, shelf, whole(by)).expect(rt, "a window");
     window.as_slice() == due.as_slice()
 }
 
-/// Why the whole image of a moved file isn't given, where a byte in the middle of a part has
-/// changed.
-fn with_moved_turned(
+/// Why the whole image of a file isn't given, where a byte at the front of a part has changed.
+fn with_file_turned(
     rt: &impl Abort,
     alloc: Global,
     entry: &Entry,
     file: &[u8],
-    part: usize,
+    (by, part): (u32, usize),
     kept: &mut HashedParts,
 ) -> Option<Fault> {
     let name = format!(in alloc; "{}.jp2", entry.name.as_str()).expect(rt, "a name");
     let mut shelf = with_file(rt, alloc, name.as_str(), &turned(rt, alloc, file, part));
-    by_kept_parts(entry, alloc, &mut shelf, kept, square(0, 448)).err()
+    by_kept_parts(entry, alloc, &mut shelf, kept, whole(by)).err()
 }
 
 /// More parts are asked for than are kept, so that new ones take the places of old ones: each window
@@ -256,34 +301,26 @@ fn with_moved_turned(
 #[test]
 fn more_parts_than_are_kept(rt: HostRuntime) {
     let alloc = rt.alloc();
-    let file = made(&rt, alloc).file;
-    let archive = open(&rt, alloc, all_moved(&rt, alloc, &file));
-    let mut shelf = all_moved(&rt, alloc, &file);
+    let files = made_files(&rt, alloc);
+    let archive = open(&rt, alloc, files.shelf(&rt, alloc));
+    let mut shelf = files.shelf(&rt, alloc);
     let mut kept = HashedParts::new(alloc);
     let mut parts = 0u64;
-    for entry in archive.list() {
+    for (entry, by) in archive.list().iter().zip(0..FILES) {
         parts = parts.saturating_add(entry.parts.len() as u64);
-        equal_at(
-            &rt,
-            parts,
-            is_whole(&rt, alloc, entry, &mut shelf, &mut kept),
-            true,
-        );
+        let is_due = is_whole(&rt, alloc, entry, &mut shelf, &mut kept, by);
+        equal_at(&rt, by, is_due, true);
     }
-    equal_at(&rt, parts, 300 <= parts, true);
-    for (entry, by) in archive.list().iter().zip(0..24) {
-        if by % 23 == 0 {
-            let file = moved(&rt, alloc, &file, by);
+    equal(&rt, parts, 292);
+    for (entry, by) in archive.list().iter().zip(0..FILES) {
+        if by % 60 == 0 {
+            let file = files.file(&rt, alloc, by);
             for part in 0..entry.parts.len() {
-                let answer = with_moved_turned(&rt, alloc, entry, &file, part, &mut kept);
+                let answer = with_file_turned(&rt, alloc, entry, &file, (by, part), &mut kept);
                 equal_at(&rt, (by, part), answer, Some(Fault::Changed));
             }
-            equal_at(
-                &rt,
-                by,
-                is_whole(&rt, alloc, entry, &mut shelf, &mut kept),
-                true,
-            );
+            let is_due = is_whole(&rt, alloc, entry, &mut shelf, &mut kept, by);
+            equal_at(&rt, by, is_due, true);
         }
     }
 }
@@ -314,10 +351,10 @@ fn of_length(
 /// is given.
 static LENGTHS: [(usize, usize, u32, Result<bool, Fault>); 6] = [
     (0, 1, 0, Ok(true)),
-    (0, 1, 440, Ok(true)),
-    (0, 50_000, 440, Ok(true)),
+    (0, 1, 248, Ok(true)),
+    (0, 50_000, 248, Ok(true)),
     (1, 0, 0, Ok(true)),
-    (20_000, 0, 440, Err(Fault::Changed)),
+    (20_000, 0, 248, Err(Fault::Changed)),
     (1_000_000, 0, 0, Err(Fault::Changed)),
 ];
 
@@ -336,7 +373,7 @@ fn of_no_file(rt: &impl Abort, alloc: Global, noise: &Noise) -> ([Option<Fault>;
     let entry = noise.entry(rt);
     let faults = [
         by_parts(entry, alloc, &mut shelf, square(0, 8)).err(),
-        by_parts(entry, alloc, &mut shelf, square(448, 8)).err(),
+        by_parts(entry, alloc, &mut shelf, square(SIDE, 8)).err(),
     ];
     (faults, shelf.failures())
 }
@@ -365,7 +402,7 @@ fn failing_at(
 #[test]
 fn failing_at_each_call(rt: HostRuntime) {
     let noise = made(&rt, rt.alloc());
-    let asked = square(0, 448);
+    let asked = square(0, SIDE);
     let (_same, stretches, _bytes) = compared(&rt, rt.alloc(), &noise, asked);
     let window = due(&rt, rt.alloc(), &noise, asked);
     for call in 1..stretches.saturating_add(1) {

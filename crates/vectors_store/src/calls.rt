@@ -39,16 +39,16 @@ fn pixel(rt: &impl Abort, alloc: Global, sample: i32) -> Image {
     image_of(rt, alloc, 1, plane)
 }
 
-/// An image of 448 by 448 grey samples of noise: the high bytes of numbers that are drawn one by
+/// An image of 256 by 256 grey samples of noise: the high bytes of numbers that are drawn one by
 /// another; the first comes so from 1.
 fn noise(rt: &impl Abort, alloc: Global) -> Image {
     let mut plane = Vec::new(alloc);
     let mut number = 1u32;
-    for _ in 0..448 * 448 {
+    for _ in 0..256 * 256 {
         number = drawn(number);
         plane.push((number >> 24) as i32).expect(rt, "a sample");
     }
-    image_of(rt, alloc, 448, plane)
+    image_of(rt, alloc, 256, plane)
 }
 
 /// No levels, one layer, LRCP, blocks of 64 by 64, and nothing else, in this container.
