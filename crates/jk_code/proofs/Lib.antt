@@ -28,6 +28,7 @@ pub mod MadeLaws
 pub mod StripeRows
 pub mod Laws
 pub mod TileRowing
+pub mod LoneTile
 pub mod RowLaws
 pub mod ReadLaws
 pub mod WalkLaws

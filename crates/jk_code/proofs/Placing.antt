@@ -81,7 +81,7 @@ own_agrees bytes h d t c places values is lt read e x y within =
     ∙ sym (ap (λ (r : Result (List PacketPlace) Fault). component_samples bytes h t d (places_or r) c x y) read) ∙ sym (tile_value bytes h d t c x y is holds)
 
 -- plane c of a part
-shown_plane : (bytes : List ℕ) (h : Headers) (d t c : ℕ) (part : Rect) (places : List PacketPlace) (planes : List (List ℤ)) → planes ≡ part_lists bytes h t d part places → c < h.siz.components
+pub shown_plane : (bytes : List ℕ) (h : Headers) (d t c : ℕ) (part : Rect) (places : List PacketPlace) (planes : List (List ℤ)) → planes ≡ part_lists bytes h t d part places → c < h.siz.components
     → get_or planes c [] ≡ raster part (component_samples bytes h t d places c)
 shown_plane bytes h d t c part places planes e lt =
     ap (λ (ls : List (List ℤ)). get_or ls c []) e ∙ get_or-map-range_with_len (λ i. raster part (component_samples bytes h t d places i)) 0 h.siz.components c c [] lt (omega arith)

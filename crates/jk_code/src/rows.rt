@@ -130,9 +130,8 @@ fn part_of_stripe(coded: &CodedImage<'_>, number: usize, stripe: &Rect) -> Rect
     }
 }
 
-/// The planes of a stripe, which lies in a row of tiles. Code-blocks that were decoded before aren't
-/// decoded again.
-pub(crate) fn stripe_planes(
+/// The planes of a stripe, put together out of those of a row of tiles.
+fn placed_planes(
     alloc: Global,
     coded: &CodedImage<'_>,
     row: &mut TileRow,
@@ -164,6 +163,71 @@ pub(crate) fn stripe_planes(
         put_tile(&next, stripe, &part, &values, &mut planes);
     }
     Ok(planes)
+}
+
+/// The planes of a stripe that lies in the only tile of a row, and is as wide as the tile: nothing is
+/// copied.
+fn planes_of_lone(
+    alloc: Global,
+    coded: &CodedImage<'_>,
+    row: &mut TileRow,
+    stripe: &Rect,
+    decoded: &DecodedBlocks,
+) -> Result<Vec<Vec<i32>>, Fault>
+    requires source { IsImageSource coded.now }
+    requires lone { tiles_across coded.now.headers.siz ≡ 1 }
+    requires wide { part_of_stripe coded.now row.old.first stripe.now ≡ stripe.now }
+    requires decoded { AreDecoded coded.now.bytes decoded.now }
+    requires row { IsTileRow coded.now row.old.first (tiles_across coded.now.headers.siz) stripe.now.y0 row.old }
+    requires first { row.old.first % tiles_across coded.now.headers.siz ≡ 0 }
+    requires stripe { IsArea stripe.now }
+    requires left { stripe.now.x0 ≡ coded.now.area.x0 }
+    requires right { stripe.now.x1 ≡ coded.now.area.x1 }
+    requires from { IsStepEnd (area_of_tile coded.now row.old.first) stripe.now.y0 }
+    requires to { IsStepEnd (area_of_tile coded.now row.old.first) stripe.now.y1 }
+    ensures row { OnOk result (IsTileRow coded.now row.old.first (tiles_across coded.now.headers.siz) stripe.now.y1 row.new) }
+    ensures planes { IfOk result (λ v. lists_of v.items
+        ≡ planes_of_tiles coded.now.bytes coded.now.headers coded.now.reduce stripe.now) }
+    // Behind the last row no code-block of the tiles has a fault.
+    ensures fine { stripe.now.y1 ≡ (area_of_tile coded.now row.old.first).y1 → OnOk result
+        ((k : ℕ) → k < tiles_across coded.now.headers.siz → IsFineTile coded.now (row.old.first + k)) }
+    ensures cause { IfErr result (λ e. IsMemory e ⊎ HasFaultAt coded.now e) }
+{
+    let next = tile_of(coded, row.first);
+    row.tiles[0].step_of(alloc, &next, stripe.y0, stripe.y1, decoded)
+}
+
+/// The planes of a stripe, which lies in a row of tiles. Code-blocks that were decoded before aren't
+/// decoded again.
+pub(crate) fn stripe_planes(
+    alloc: Global,
+    coded: &CodedImage<'_>,
+    row: &mut TileRow,
+    stripe: &Rect,
+    decoded: &DecodedBlocks,
+) -> Result<Vec<Vec<i32>>, Fault>
+    requires decoded { AreDecoded coded.now.bytes decoded.now }
+    requires row { IsTileRow coded.now row.old.first (tiles_across coded.now.headers.siz) stripe.now.y0 row.old }
+    requires first { row.old.first % tiles_across coded.now.headers.siz ≡ 0 }
+    requires stripe { IsArea stripe.now }
+    requires left { stripe.now.x0 ≡ coded.now.area.x0 }
+    requires right { stripe.now.x1 ≡ coded.now.area.x1 }
+    requires from { IsStepEnd (area_of_tile coded.now row.old.first) stripe.now.y0 }
+    requires to { IsStepEnd (area_of_tile coded.now row.old.first) stripe.now.y1 }
+    ensures row { OnOk result (IsTileRow coded.now row.old.first (tiles_across coded.now.headers.siz) stripe.now.y1 row.new) }
+    ensures planes { IfOk result (λ v. lists_of v.items
+        ≡ planes_of_tiles coded.now.bytes coded.now.headers coded.now.reduce stripe.now) }
+    // Behind the last row no code-block of the tiles has a fault.
+    ensures fine { stripe.now.y1 ≡ (area_of_tile coded.now row.old.first).y1 → OnOk result
+        ((k : ℕ) → k < tiles_across coded.now.headers.siz → IsFineTile coded.now (row.old.first + k)) }
+    ensures cause { IfErr result (λ e. IsMemory e ⊎ HasFaultAt coded.now e) }
+{
+    let area = coded.area;
+    let part = part_of_stripe(coded, row.first, stripe);
+    if row.tiles.len() == 1 && part.x0 == area.x0 && part.x1 == area.x1 {
+        return planes_of_lone(alloc, coded, row, stripe, decoded);
+    }
+    placed_planes(alloc, coded, row, stripe, decoded)
 }
 
 /// Gives rows `y` up to `end`, which lie in a row of tiles; of a row of tiles that has no rows none are

@@ -15,8 +15,8 @@ Without an option OUT is as IN. A bare codestream keeps nothing (F15).";
 /// What `jk extras` writes.
 const EXTRAS_HELP: &str = "\
 A line is written for each thing, a LABEL, a colon and a value:
-colour: sRGB, grey, sYCC, enumerated=N, profile=SIZE or method=N of each colour box; the first that
-counts is the first that isn't method=N
+colour: sRGB, grey, sYCC, enumerated=N, profile=SIZE, method=N or broken of each colour box; the
+first that is enumerated or a profile counts
 capture: ACROSSxDOWN, each N/DeE, which is N / D * 10^E samples by the metre
 display: the same, at which the image is to be displayed
 xml: SIZE of each box of XML

@@ -12,10 +12,10 @@ use std::process::Abort;
 /// The number of elements that a call must take with ample memory.
 const MANY: usize = 1 << 20;
 
-/// A bare codestream in tiles of one sample, or in one tile.
-fn tiled(alloc: Global, tile: Option<(u32, u32)>) -> Parameters {
-    let mut given = plain(alloc, 5);
-    given.tile = tile;
+/// A bare codestream in tiles of one sample, which have no level.
+fn in_samples(alloc: Global) -> Parameters {
+    let mut given = plain(alloc, 0);
+    given.tile = Some((1, 1));
     given
 }
 
@@ -39,7 +39,7 @@ fn there_and_back(
 fn a_million_samples(rt: HostRuntime) {
     let alloc = rt.alloc();
     let pgm = even_pnm(&rt, alloc, "P5\n1024 1024\n255\n", MANY, 128);
-    let file = there_and_back(&rt, alloc, &pgm, &tiled(alloc, None));
+    let file = there_and_back(&rt, alloc, &pgm, &plain(alloc, 5));
     equal(&rt, file.is_some(), true);
 }
 
@@ -53,7 +53,7 @@ fn widths(rt: &impl Abort, alloc: Global, file: &[u8]) -> (u32, u32) {
 fn many_tiles(rt: HostRuntime) {
     let alloc = rt.alloc();
     let strip = even_pnm(&rt, alloc, "P5\n65535 1\n255\n", 65_535, 128);
-    let file = there_and_back(&rt, alloc, &strip, &tiled(alloc, Some((1, 1))));
+    let file = there_and_back(&rt, alloc, &strip, &in_samples(alloc));
     let file = file.expect(&rt, "the page again");
     equal(&rt, widths(&rt, alloc, &file), (65_535, 1));
 }

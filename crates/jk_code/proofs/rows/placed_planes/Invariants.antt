@@ -6,7 +6,7 @@ use Rattle.jk_rows.specs.declared.tile.TileRows.{TileRows}
 use Rattle.jk_rows.specs.Tiles.{IsTileRows}
 use Rattle.jk_code.specs.Rows.{tile_source, area_of_tile}
 use Rattle.jk_code.specs.Tiles.{ArePlanes, ShowsTileAt}
-use Rattle.jk_code.proofs.rows.stripe_planes.Given as goal
+use Rattle.jk_code.proofs.rows.placed_planes.Given as goal
 
 abbrev pub invariant-loop-k : goal.invariant-loop-k
 invariant-loop-k l = record {
