@@ -66,8 +66,10 @@ def begun(site, *words):
     room.mkdir(exist_ok=True)
     command = [sys.executable, "-m", "jk.view", "--no-browser", "--jk", str(site / "jk"), "--leaflet",
                str(site / "leaflet"), *map(str, words)]
+    # What a shell starts in the background passes over SIGINT, and so would what it starts.
     return subprocess.Popen(command, stdout=subprocess.PIPE, stderr=subprocess.PIPE, text=True,
-                            env={**os.environ, "TMPDIR": str(room)})
+                            env={**os.environ, "TMPDIR": str(room)},
+                            preexec_fn=lambda: signal.signal(signal.SIGINT, signal.SIG_DFL))
 
 
 class Shown:

@@ -9,9 +9,11 @@ The page is for this machine: what is asked under another name than 127.0.0.1 or
 from __future__ import annotations
 
 import argparse
+import contextlib
 import http.client
 import http.server
 import os
+import queue
 import re
 import shutil
 import signal
@@ -20,7 +22,7 @@ import sys
 import tempfile
 import threading
 import webbrowser
-from typing import IO, Dict, Optional, Sequence, Tuple
+from typing import Dict, Optional, Sequence, Tuple
 
 HERE = os.path.dirname(os.path.abspath(__file__))
 REPOSITORY = os.path.dirname(os.path.dirname(os.path.dirname(HERE)))
@@ -37,6 +39,8 @@ TYPES = {
 }
 #: How long `jk serve` has to end, in seconds.
 PATIENCE = 10
+#: How long a wait lasts before it is begun again. Python heeds a signal that comes right before a wait only behind it.
+SOON = 0.5
 
 
 class CannotShow(Exception):
@@ -100,28 +104,42 @@ class Served:
                                           start_new_session=True)
         except OSError as error:
             raise CannotShow(f"{program}: {error.strerror}") from error
+        self.told: queue.SimpleQueue[Optional[Tuple[int, int]]] = queue.SimpleQueue()
         try:
-            self.images, self.port = self.started(self.lines())
             threading.Thread(target=self.tell, daemon=True).start()
+            self.images, self.port = self.started()
         except BaseException:
             self.end()
             raise
 
-    def lines(self) -> IO[str]:
-        assert self.child.stderr is not None
-        return self.child.stderr
-
-    def started(self, lines: IO[str]) -> Tuple[int, int]:
-        for line in lines:
-            found = re.search(r"(\d+) images on http://127\.0\.0\.1:(\d+)/", line)
-            if found:
-                return int(found[1]), int(found[2])
-            sys.stderr.write(line)
-        raise CannotShow(f"jk serve ended with the status {self.child.wait()}")
-
     def tell(self) -> None:
-        for line in self.lines():
-            sys.stderr.write(line)
+        """Hands on what it says, but for how many images it has and where, which is told, as its end is."""
+        assert self.child.stderr is not None
+        has_started = False
+        for line in self.child.stderr:
+            found = None if has_started else re.search(r"(\d+) images on http://127\.0\.0\.1:(\d+)/", line)
+            if found:
+                has_started = True
+                self.told.put((int(found[1]), int(found[2])))
+            else:
+                sys.stderr.write(line)
+        self.told.put(None)
+
+    def next_told(self) -> Optional[Tuple[int, int]]:
+        while True:
+            with contextlib.suppress(queue.Empty):
+                return self.told.get(timeout=SOON)
+
+    def started(self) -> Tuple[int, int]:
+        found = self.next_told()
+        if found is None:
+            raise CannotShow(f"jk serve ended with the status {self.child.wait()}")
+        return found
+
+    def wait(self) -> int:
+        """The status with which it ends."""
+        self.next_told()
+        return self.child.wait()
 
     def end(self) -> None:
         if self.child.poll() is None:
@@ -251,7 +269,7 @@ def show(asked: argparse.Namespace, links: str) -> int:
                 print(f"{page.address}  (Ctrl-C ends it)", flush=True)
                 if not asked.no_browser:
                     webbrowser.open(page.address)
-                return served.child.wait()
+                return served.wait()
             finally:
                 page.shutdown()
     finally:
