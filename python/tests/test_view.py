@@ -12,7 +12,8 @@ import time
 import pytest
 
 # It lists the files of its folder, replies to what is asked of them with the words of the request, and ends where it
-# is asked for /images/end. In a folder with a file `slow` it is long in starting; no file `bad` is an image.
+# is asked for /images/end. In a folder with a file `slow` it is long in starting, with `latin` it tells of a name that
+# is no UTF-8, and no file `bad` is an image.
 STAND_IN = f"""#!{sys.executable}
 import http.server, os, sys, time
 folder = sys.argv[2]
@@ -40,6 +41,8 @@ if os.path.exists(os.path.join(folder, "slow")):
     time.sleep(60)
 server = http.server.ThreadingHTTPServer(("127.0.0.1", 0), Replies)
 print("jk: odd.jp2 isn't listed: F2 Truncated", file=sys.stderr)
+if os.path.exists(os.path.join(folder, "latin")):
+    sys.stderr.buffer.write(b"jk: \\xff.jp2 isn't listed: F2 Truncated\\n")
 count = sum(not name.startswith("bad") for name in os.listdir(folder))
 print(f"jk: {{count}} images on http://127.0.0.1:{{server.server_port}}/images", file=sys.stderr, flush=True)
 server.serve_forever()
@@ -170,6 +173,24 @@ def test_it_ends_when_the_server_ends(site):
     assert shown.get("/images/end")[0] == 502
     shown.child.communicate(timeout=20)
     assert shown.child.returncode == 3
+    ended(site, shown)
+
+
+def test_names_that_are_no_utf_8_are_told(site):
+    (site / "latin").touch()
+    shown = Shown(site, site)
+    assert shown.get("/images/end")[0] == 502
+    _, told = shown.child.communicate(timeout=20)
+    assert shown.child.returncode == 3 and "jk: \\xff.jp2 isn't listed: F2 Truncated\n" in told
+    ended(site, shown)
+
+
+def test_what_it_says_need_not_be_read(site):
+    shown = Shown(site, site)
+    shown.child.stderr.close()
+    assert shown.get("/images/end")[0] == 502
+    shown.child.stdout.read()
+    assert shown.child.wait(20) == 3
     ended(site, shown)
 
 

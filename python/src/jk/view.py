@@ -100,8 +100,9 @@ class Served:
         words = [program, "serve", folder, "--port", "0", "--workers", str(workers)]
         try:
             # Its standard input stays open, since it would end without. Ctrl-C ends this process, which ends it.
-            self.child = subprocess.Popen(words, stdin=subprocess.PIPE, stderr=subprocess.PIPE, text=True,
-                                          start_new_session=True)
+            # A name of a file, which it may tell, need be no UTF-8.
+            self.child = subprocess.Popen(words, stdin=subprocess.PIPE, stderr=subprocess.PIPE, encoding="utf-8",
+                                          errors="backslashreplace", start_new_session=True)
         except OSError as error:
             raise CannotShow(f"{program}: {error.strerror}") from error
         self.told: queue.SimpleQueue[Optional[Tuple[int, int]]] = queue.SimpleQueue()
@@ -113,7 +114,7 @@ class Served:
             raise
 
     def tell(self) -> None:
-        """Hands on what it says, but for how many images it has and where, which is told, as its end is."""
+        """Hands on what it says, but for how many images it has and where, which is put into `told`, as its end is."""
         assert self.child.stderr is not None
         has_started = False
         for line in self.child.stderr:
@@ -122,7 +123,9 @@ class Served:
                 has_started = True
                 self.told.put((int(found[1]), int(found[2])))
             else:
-                sys.stderr.write(line)
+                # It is read to its end, whoever still reads what is told here: else it would wait for a reader.
+                with contextlib.suppress(OSError, ValueError):
+                    sys.stderr.write(line)
         self.told.put(None)
 
     def next_told(self) -> Optional[Tuple[int, int]]:
