@@ -176,7 +176,7 @@ def test_it_ends_when_the_server_ends(site):
     ended(site, shown)
 
 
-def test_names_that_are_no_utf_8_are_told(site):
+def test_bytes_that_are_no_utf_8_are_told(site):
     (site / "latin").touch()
     shown = Shown(site, site)
     assert shown.get("/images/end")[0] == 502

@@ -100,7 +100,7 @@ class Served:
         words = [program, "serve", folder, "--port", "0", "--workers", str(workers)]
         try:
             # Its standard input stays open, since it would end without. Ctrl-C ends this process, which ends it.
-            # A name of a file, which it may tell, need be no UTF-8.
+            # Bytes that are no UTF-8, as another program than jk's may tell, must not end what reads them.
             self.child = subprocess.Popen(words, stdin=subprocess.PIPE, stderr=subprocess.PIPE, encoding="utf-8",
                                           errors="backslashreplace", start_new_session=True)
         except OSError as error:
