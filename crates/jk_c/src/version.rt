@@ -3,7 +3,7 @@
 ghost use Rattle.std.specs.Prelude.{◌≡◌};
 
 /// Major, minor and patch number, each in two decimal digits.
-pub const VERSION: u32 = 301;
+pub const VERSION: u32 = 302;
 
 /// The version that is linked: 100 times the minor number and the patch number, behind 10,000 times
 /// the major one.

@@ -60,7 +60,7 @@ pub(crate) fn chains(
 {
     let (across, down) = precinct_count(&source.rect(), source.coding(), r);
     let count = (across * down) as usize;
-    packets_by_precinct(alloc, source.packets(), source.number(), r, count)
+    packets_by_precinct(alloc, source.tile_packets(), source.number(), r, count)
 }
 
 /// How far the rows of resolution `r` are taken where the highest is made up to row `e`.

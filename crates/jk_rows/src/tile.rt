@@ -48,14 +48,7 @@ fn component<'a>(coded: &CodedTile<'a>, c: u8, decoded: &'a DecodedBlocks) -> Co
         top: coding.levels - coded.reduce,
         area: resolution(&rect, coded.reduce, 0),
     };
-    CodedComponent::new(
-        coded.bytes,
-        region,
-        coding,
-        coded.packets.as_slice(),
-        c,
-        decoded,
-    )
+    CodedComponent::new(coded.bytes, region, coding, coded.packets, c, decoded)
 }
 
 /// Makes samples of the values of all components: colours, and the sign and depth of the image.

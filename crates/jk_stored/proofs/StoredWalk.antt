@@ -1,5 +1,6 @@
 -- The walk over the packets of a tile of a stored file, after some of them.
 use Rattle.std.proofs.Common.{◌≡◌, ℕ, ◌+◌, ◌-◌, ◌*◌, ◌<◌, ◌≤◌, Bool, true, false, not, eqb, List, [], ◌∷◌, ◌++◌, length, drop, map, Some, Result, Ok, Err, slice_get, get_or, replicate, inl, inr, cond, refl, sym, ap, ◌∙◌, subst, arith, append_assoc, append-nil}
+use Rattle.std.specs.List.{AllByRecursion}
 use Rattle.std.proofs.lemmas.Bool.{cases_lt}
 use Rattle.std.proofs.lemmas.List.{nil_from_length, map-append, length-replicate, get_or-replicate, get_or_past}
 use Rattle.jk_math.specs.Answer.{◌>>=◌, refuse}
@@ -156,3 +157,26 @@ goes_done c s sop eph part at names states entries none over g =
     (names-nil c states ((at, part.1) ∷ []) ∙ ap (λ (ps : List (ℕ × ℕ)). refuse (not (eqb (length ps) 0)) SurplusBytes >>= λ _. Ok []) left)
     ∙ ap (λ (ws : List PacketPlace). Ok ws) (append-nil g.places) in
     ap (each_of (packet_entry c sop)) places ∙ ap (λ (es : List PacketEntry). Ok es) (sym g.are)
+
+-- ---- the names
+
+-- The names so far, and those that are left.
+pub record AreNamed (s : TileShape) (so_far left : List PacketName) : Type 0 where
+  pub joins : so_far ++ left ≡ order s
+  pub each : AllByRecursion (IsName s) so_far
+
+pub named_first : (s : TileShape) (none : List PacketName) → none ≡ [] → AreNamed s none (order s)
+named_first s none is = record { joins = ap (λ (ns : List PacketName). ns ++ order s) is; each = subst (AllByRecursion (IsName s)) (sym is) tt }
+
+named_each : (s : TileShape) (names : List PacketName) (n : PacketName) → AllByRecursion (IsName s) names → IsName s n → AllByRecursion (IsName s) (names ++ n ∷ [])
+named_each s [] n all is = (is, tt)
+named_each s (m ∷ names) n all is = (all.0, named_each s names n all.1 is)
+
+pub named_more : (s : TileShape) (so_far left rest more : List PacketName) (n : PacketName) → left ≡ n ∷ rest → IsName s n → more ≡ so_far ++ n ∷ [] → AreNamed s so_far left → AreNamed s more rest
+named_more s so_far left rest more n next is pushed h = record {
+  joins = ap (λ (ns : List PacketName). ns ++ rest) pushed ∙ append_assoc so_far (n ∷ []) rest ∙ ap (λ (ns : List PacketName). so_far ++ ns) (sym next) ∙ h.joins;
+  each = subst (AllByRecursion (IsName s)) (sym pushed) (named_each s so_far n h.each is);
+}
+
+pub named_done : (s : TileShape) (so_far left : List PacketName) → left ≡ [] → AreNamed s so_far left → so_far ≡ order s
+named_done s so_far left over h = sym (append-nil so_far) ∙ ap (λ (ns : List PacketName). so_far ++ ns) (sym over) ∙ h.joins

@@ -4,7 +4,7 @@ ghost use Rattle.std.specs.Prelude.{◌≡◌, ◌⊎◌, true, ◌+◌, ◌*◌
 ghost use Rattle.std.specs.List.{AllByRecursion};
 ghost use Rattle.jk_math.specs.declared.fault.Fault.TheVariants.{Truncated};
 ghost use Rattle.jk_geom.specs.TileShapes.{IsTileShape};
-ghost use Rattle.jk_order.specs.PacketOrder.{IsName, packet_count};
+ghost use Rattle.jk_order.specs.PacketOrder.{IsName, packet_count, order};
 ghost use Rattle.jk_packet.specs.Reading.{PrecinctState};
 ghost use Rattle.jk_params.specs.Coding.{HasPlanes};
 ghost use Rattle.jk_walk.specs.Sop.{counter_of};
@@ -106,6 +106,13 @@ fn read_entry<S: Stored>(
     })
 }
 
+/// The packets of a tile of a stored codestream in their order: whose each is, and where it stands.
+#[derive(Drop)]
+pub(crate) struct StoredPackets {
+    pub(crate) names: Vec<PacketName>,
+    pub(crate) entries: Vec<PacketEntry>,
+}
+
 /// How many bytes are to be at hand where so many packets have so many bytes: the bytes of a packet,
 /// as far as one header and another are no longer, and some more.
 fn enough(size: usize, count: usize) -> usize {
@@ -113,32 +120,35 @@ fn enough(size: usize, count: usize) -> usize {
     (4096 + mean / 4).min(ROOM)
 }
 
-/// The entries of the packets of a tile of this shape, whose data stand at one place of a stored
-/// codestream.
+/// The packets of a tile of this shape, whose data stand at one place of a stored codestream.
 ///
 /// Any fault where the packets aren't read so. No tile has more packets than its data have bytes,
 /// and room for as many is taken at once.
-pub(crate) fn read_entries<S: Stored>(
+pub(crate) fn read_stored<S: Stored>(
     alloc: Global,
     stored: &S,
     shape: &TileShape,
     markers: PacketMarkers,
     part: (usize, usize),
     hand: &mut Hand,
-) -> Result<Vec<PacketEntry>, Fault>
+) -> Result<StoredPackets, Fault>
     requires shape { IsTileShape shape.now }
     requires planes { AllByRecursion HasPlanes shape.now.codings }
     requires few { packet_count shape.now ≤ 2 ^ 24 }
     requires part { part.0 ≤ part.1 }
     ensures read { (c : List ℕ) → S.keeps stored.now c → part.1 ≤ length c → IsHeld c hand.old
-        → IfOk result (λ v. entries_in c shape.now markers.sop markers.eph part ≡ Ok v.items) }
+        → IfOk result (λ p. entries_in c shape.now markers.sop markers.eph part ≡ Ok p.entries.items) }
+    ensures order { IfOk result (λ p. p.names.items ≡ order shape.now) }
+    ensures names { IfOk result (λ p. AllByRecursion (IsName shape.now) p.names.items) }
     ensures held { (c : List ℕ) → S.keeps stored.now c → IsHeld c hand.old → OnOk result (IsHeld c hand.new) }
 {
     let (start, end) = part;
     let count = packet_count(shape);
     let mut packets = Packets::new(shape)?;
     let mut precincts = Precincts::new(alloc, shape.codings.as_slice().len(), markers)?;
-    let mut all = Vec::with_capacity(alloc, (end - start).min(count as usize))?;
+    let room = (end - start).min(count as usize);
+    let mut names = Vec::with_capacity(alloc, room)?;
+    let mut all = Vec::with_capacity(alloc, room)?;
     hand.aim(enough(end - start, count as usize));
     let mut at = start;
     for _ in 0..count {
@@ -158,10 +168,14 @@ pub(crate) fn read_entries<S: Stored>(
             hand,
         )?;
         at = entry.end;
+        names.push(name)?;
         all.push(entry)?;
     }
     if at < end {
         return Err(Fault::SurplusBytes);
     }
-    Ok(all)
+    Ok(StoredPackets {
+        names,
+        entries: all,
+    })
 }

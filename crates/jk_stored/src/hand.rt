@@ -9,8 +9,9 @@ use crate::stored::Stored;
 use jk_math::Fault;
 use std::alloc::Global;
 
-/// How many bytes are at hand at once.
-pub(crate) const ROOM: usize = 1 << 20;
+/// How many bytes are at hand at once: few enough that they are still in the processor's cache when
+/// they are looked at.
+pub(crate) const ROOM: usize = 1 << 18;
 
 /// Some bytes of a stored file, one after another.
 #[derive(Drop)]

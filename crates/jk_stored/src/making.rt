@@ -14,7 +14,7 @@ ghost use Rattle.jk_stored.specs.Contents.{IsContent};
 ghost use Rattle.jk_stored.specs.Making.{Made, made_text, no_size, IsMade, data_in, Shows, AreMade};
 
 use crate::content::{Seen, content_size, put_due};
-use crate::entries::read_entries;
+use crate::entries::read_stored;
 use crate::hand::Hand;
 use crate::needed::needed_in;
 use crate::outline::{Outline, PartSize};
@@ -22,7 +22,6 @@ use crate::stored::Stored;
 use jk_geom::{meet, reduced};
 use jk_marks::{PartHead, copy_main, copy_part_segments, put_part_head};
 use jk_math::{Fault, Rect};
-use jk_order::packet_names;
 use jk_params::{Codestream, PacketMarkers};
 use jk_walk::shape_of;
 use std::alloc::Global;
@@ -142,8 +141,9 @@ fn put_tile<S: Stored>(
         sop: cod.sop,
         eph: cod.eph,
     };
-    let entries = read_entries(alloc, sources.stored, &shape, markers, part, hand)?;
-    let names = packet_names(alloc, &shape)?;
+    let packets = read_stored(alloc, sources.stored, &shape, markers, part, hand)?;
+    let names = packets.names.as_slice();
+    let entries = packets.entries.as_slice();
     let Sight { window, reduce } = sources.sight;
     let top = meet(&window, &reduced(&shape.rect, reduce));
     let needed = needed_in(alloc, &shape, &top, reduce)?;
@@ -154,9 +154,9 @@ fn put_tile<S: Stored>(
         reduce,
         needed: &needed,
     };
-    let due = content_size(&seen, &names, &entries);
+    let due = content_size(&seen, names, entries);
     put_head(head, due, out)?;
-    put_due(sources.stored, &seen, &names, &entries, due, hand, out)?;
+    put_due(sources.stored, &seen, names, entries, due, hand, out)?;
     Ok(())
 }
 

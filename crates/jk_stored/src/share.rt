@@ -5,13 +5,15 @@ ghost use Rattle.jk_marks.specs.Siz.{tile_count};
 ghost use Rattle.jk_params.specs.Headers.{AreHeaders};
 ghost use Rattle.jk_geom.specs.TileShapes.{IsTileShape};
 
-use crate::hand::ROOM;
 use crate::making::Sight;
 use crate::outline::PartSize;
 use jk_geom::{TileShape, is_empty, meet, precinct_count};
 use jk_math::Rect;
 use jk_params::Codestream;
 use jk_walk::shape_of;
+
+/// A codestream of so many bytes is soon at hand as a whole.
+const SMALL: usize = 1 << 20;
 
 /// Of so many bytes those of the precincts that a stretch meets, one after another in a whole.
 fn share(bytes: u64, stretch: u32, whole: u32, precincts: u32) -> u64 {
@@ -53,7 +55,7 @@ pub(crate) fn needs_most(
 ) -> bool
     requires { (size : ℕ) × AreHeaders size headers.now }
 {
-    if sight.reduce > 0 || size <= ROOM {
+    if sight.reduce > 0 || size <= SMALL {
         return false;
     }
     let mut needed: u64 = 0;

@@ -83,9 +83,9 @@ abbrev pub source_of : List ℕ → Rect → Coding → (d : ℕ) → Rect → L
 source_of bytes a k d u places c = record { bytes = bytes; region = region_of a k d u; coding = k; packets = places; component = c }
 
 pub source_is : (bytes : List ℕ) (h : Headers) (t c d : ℕ) (rect u : Rect) (coding : Coding) (places : List PacketPlace) → AreHeaders (length bytes) h → t < tile_count h.siz → c < length (tile_in h.tiles t).codings
-    → IsArea rect → rect ≡ tile_area h.siz t → coding ≡ coding_of (tile_in h.tiles t).codings c → d ≤ coding.levels → IsPartOf u (shown_area h.siz t d) → length bytes < 2 ^ 64 → AllByRecursion (λ w. place_end w ≤ length bytes) places → length places ≤ 2 ^ 24
+    → IsArea rect → rect ≡ tile_area h.siz t → coding ≡ coding_of (tile_in h.tiles t).codings c → d ≤ coding.levels → IsPartOf u (shown_area h.siz t d) → length bytes < 2 ^ 64 → AllByRecursion (λ w. place_end w ≤ length bytes) places
     → IsSource (source_of bytes rect coding d u places c)
-source_is bytes h t c d rect u coding places is lt few area er ec le inside fits ends packets =
+source_is bytes h t c d rect u coding places is lt few area er ec le inside fits ends =
     let f = is.each t lt in
     let coded = subst IsCoding (sym ec) (f.codings.each c few) in
     record {
@@ -103,7 +103,6 @@ source_is bytes h t c d rect u coding places is lt few area er ec le inside fits
           subst (λ (a : Rect). precinct_number a coding r ≤ 2 ^ 24) (sym er) (subst (λ (k : Coding). precinct_number (tile_area h.siz t) k r ≤ 2 ^ 24) (sym ec) due);
       fits = fits;
       ends = ends;
-      few = packets;
     }
 
 -- ---- its values

@@ -7,6 +7,7 @@ pub mod Gathering
 pub mod Filled
 pub mod Unread
 pub mod Chaining
+pub mod Full
 pub mod Blocks
 pub mod WholeTile
 pub mod LocalTiles

@@ -75,6 +75,12 @@ packets_at bytes h t =
     let s = shape_in h.siz f t in
     names_at bytes (order s) (blank_states s f.cod.sop f.cod.eph) f.data_places
 
+-- the numbers of the packets that have something of a code-block, where `low` is that of the first
+abbrev pub full_numbers : (low : ℕ) → List PacketPlace → List ℕ
+full_numbers low [] = []
+full_numbers low (w ∷ places) =
+    if length w.parts == 0 then full_numbers (low + 1) places else low ∷ full_numbers (low + 1) places
+
 -- the bodies of parts, which stand one after another from a place on
 abbrev pub bodies_at : List ℕ → ℕ → List BlockContribution → List Body
 bodies_at bytes at [] = []

@@ -75,7 +75,7 @@ fn tile_packets(
     ensures { Answers (λ p. p) result (packets_at bytes.now headers.now tile) }
 {
     let places = read_tile::<PacketPlace>(alloc, headers, bytes, tile)?;
-    Ok(TilePackets::new(places))
+    TilePackets::new(alloc, places)
 }
 
 /// The entries of the packets of a tile.

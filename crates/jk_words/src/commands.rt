@@ -8,7 +8,7 @@ use std::alloc::{AllocError, Global};
 /// The version. Over what stands behind it a release writes, into the built program, the line of
 /// the kit that proved it (`rt version`) and the processors that it is for, and then spaces
 /// (tools/release).
-const VERSION: &str = "0.3.1\nnot a release: `rt version` names the kit that proved it";
+const VERSION: &str = "0.3.2\nnot a release: `rt version` names the kit that proved it";
 
 /// What is told under the list of commands.
 const STATUSES: &str = "\

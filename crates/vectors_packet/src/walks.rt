@@ -7,7 +7,7 @@ ghost use Rattle.jk_params.specs.Headers.{AreHeaders};
 use crate::headers::tell_parts;
 use crate::walk_cases::{CASES, WORKED};
 use jk_params::{Codestream, read_codestream};
-use jk_walk::{PacketPlace, read_packets};
+use jk_walk::{PacketPlace, TilePackets, read_packets};
 use std::alloc::Global;
 use std::process::Abort;
 use vectors::{Line, Told, equal, equal_at};
@@ -37,14 +37,38 @@ fn tell_packets(told: &mut Told, packets: &[PacketPlace]) {
     }
 }
 
+/// The packets that are told to have something are those with parts.
+fn full_are(rt: &impl Abort, packets: &TilePackets) {
+    let full = packets.full();
+    let mut count: usize = 0;
+    for (number, place) in packets.as_slice().iter().enumerate() {
+        if !place.parts.as_slice().is_empty() {
+            let told = full.get(count).copied();
+            equal_at(number, told, Some(number as u32)).expect(rt, "a packet with parts");
+            count = count.saturating_add(1);
+        }
+    }
+    equal(full.len(), count).expect(rt, "packets with parts");
+}
+
 /// Tells the packets of a tile, or why it is refused.
-fn tell_tile(told: &mut Told, alloc: Global, headers: &Codestream, bytes: &[u8], tile: usize)
+fn tell_tile(
+    rt: &impl Abort,
+    told: &mut Told,
+    alloc: Global,
+    headers: &Codestream,
+    bytes: &[u8],
+    tile: usize,
+)
     requires sound { AreHeaders (length bytes.now) headers.now }
     requires tile { tile < tile_count headers.now.siz }
 {
     match read_packets(alloc, headers, bytes, tile) {
         Err(fault) => told.shown(&fault),
-        Ok(packets) => tell_packets(told, packets.as_slice()),
+        Ok(packets) => {
+            full_are(rt, &packets);
+            tell_packets(told, packets.as_slice())
+        }
     }
 }
 
@@ -56,7 +80,7 @@ fn tiles_text(rt: &impl Abort, alloc: Global, bytes: &[u8]) -> String {
         if tile > 0 {
             told.word(" ");
         }
-        tell_tile(&mut told, alloc, &headers, bytes, tile);
+        tell_tile(rt, &mut told, alloc, &headers, bytes, tile);
     }
     told.end().expect(rt, "a text")
 }

@@ -18,7 +18,7 @@ from .faults import (
 )
 from .files import Info, cut, encode, extras, info, read, with_extras, write
 
-__version__ = "0.3.1"
+__version__ = "0.3.2"
 __all__ = [
     "Archive", "BadBox", "BadLength", "BadMarker", "BadParameters", "BadValue", "BadWindow", "Changed",
     "CodeOutOfInterval", "Extras", "Fault", "Info", "Limit", "Listed", "Memory", "Misfit", "MissingPackets", "NoSuchImage",

@@ -3,7 +3,7 @@ import ctypes
 import os
 from ctypes import POINTER, c_size_t, c_uint8, c_uint32, c_void_p
 
-VERSION = 301
+VERSION = 302
 SHORT = 64
 
 

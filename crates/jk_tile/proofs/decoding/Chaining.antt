@@ -117,7 +117,7 @@ chains_kept places c r count m chains lt out h = record {
 }
 
 -- a packet that has nothing
-chains_bare : (places : List PacketPlace) (c r count m : ℕ) (chains : PacketChains) → m < length places → (place_in places m).parts ≡ [] → AreByPrecinct places (m + 1) c r count chains
+pub chains_bare : (places : List PacketPlace) (c r count m : ℕ) (chains : PacketChains) → m < length places → (place_in places m).parts ≡ [] → AreByPrecinct places (m + 1) c r count chains
     → AreByPrecinct places m c r count chains
 chains_bare places c r count m chains lt none h = record {
   first = h.first;

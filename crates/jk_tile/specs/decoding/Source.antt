@@ -43,7 +43,6 @@ pub record IsSource (s : Source) : Type 0 where
   pub precincts : (r : ℕ) → r ≤ s.coding.levels → precinct_number s.region.rect s.coding r ≤ 2 ^ 24
   pub fits : length s.bytes < 2 ^ 64
   pub ends : AllByRecursion (λ w. place_end w ≤ length s.bytes) s.packets
-  pub few : length s.packets ≤ 2 ^ 24
 
 -- what its packets have of precinct n of resolution r
 abbrev pub source_bodies : Source → (r n : ℕ) → List Body

@@ -7,7 +7,7 @@ ghost use Rattle.jk_tile.specs.decoding.Gathered.{IsChain, AreByPrecinct};
 
 use jk_geom::PacketName;
 use jk_math::Fault;
-use jk_walk::PacketPlace;
+use jk_walk::{PacketPlace, TilePackets};
 use std::alloc::Global;
 
 /// The packets of each precinct of a resolution of a component that have something of a code-block,
@@ -62,23 +62,25 @@ fn link(chains: &mut PacketChains, precinct: usize, number: usize)
 /// The packets of each precinct of a resolution of a component among these packets.
 pub fn packets_by_precinct(
     alloc: Global,
-    packets: &[PacketPlace],
+    packets: &TilePackets,
     component: u8,
     resolution: u8,
     precincts: usize,
 ) -> Result<PacketChains, Fault>
-    requires few { length packets.now ≤ 2 ^ 24 }
     ensures chains { IfOk result (λ v. AreByPrecinct packets.now 0 component resolution precincts v) }
     ensures memory { IfErr result IsMemory }
 {
+    let places = packets.as_slice();
+    let full = packets.full();
     let mut chains = PacketChains {
         first: vec![in alloc; 0; precincts]?,
-        next: vec![in alloc; 0; packets.len()]?,
+        next: vec![in alloc; 0; places.len()]?,
     };
-    let mut number = packets.len();
-    while number > 0 {
-        number -= 1;
-        let packet = &packets[number];
+    let mut left = full.len();
+    while left > 0 {
+        left -= 1;
+        let number = full[left] as usize;
+        let packet = &places[number];
         let taken = is_full_of_resolution(packet, component, resolution, precincts);
         if taken {
             link(&mut chains, packet.name.precinct as usize, number);

@@ -13,7 +13,7 @@ ghost use Rattle.jk_tile.specs.decoding.Decoded.{AreDecoded};
 use crate::decoding::decoded::DecodedBlocks;
 use jk_marks::Coding;
 use jk_math::Rect;
-use jk_walk::PacketPlace;
+use jk_walk::{PacketPlace, TilePackets};
 use jk_wave::Region;
 use std::marker::Model;
 
@@ -25,7 +25,7 @@ pub struct CodedComponent<'a> {
     bytes: &'a [u8],
     region: Region,
     coding: &'a Coding,
-    packets: &'a [PacketPlace],
+    packets: &'a TilePackets,
     number: u8,
     decoded: &'a DecodedBlocks,
 }
@@ -61,7 +61,7 @@ impl<'a> CodedComponent<'a> {
         bytes: &'a [u8],
         region: Region,
         coding: &'a Coding,
-        packets: &'a [PacketPlace],
+        packets: &'a TilePackets,
         number: u8,
         decoded: &'a DecodedBlocks,
     ) -> CodedComponent<'a>
@@ -126,6 +126,13 @@ impl<'a> CodedComponent<'a> {
 
     /// The packets of the tile.
     pub fn packets(&self) -> &'a [PacketPlace]
+        ensures { result.now ≡ self.now.packets }
+    {
+        self.packets.as_slice()
+    }
+
+    /// The packets of the tile, with which of them have something of a code-block.
+    pub fn tile_packets(&self) -> &'a TilePackets
         ensures { result.now ≡ self.now.packets }
     {
         self.packets

@@ -182,7 +182,13 @@ fn add_resolution_blocks(
     let rect = source.rect();
     let (across, down) = precinct_count(&rect, source.coding(), r);
     let count = across * down;
-    let chains = packets_by_precinct(alloc, source.packets(), source.number(), r, count as usize)?;
+    let chains = packets_by_precinct(
+        alloc,
+        source.tile_packets(),
+        source.number(),
+        r,
+        count as usize,
+    )?;
     let mut numbers = Vec::new(alloc);
     for n in 0..count {
         follow(&chains, n as usize, &mut numbers)?;
@@ -223,7 +229,7 @@ fn add_tile_blocks(
     let headers = coded.headers;
     let bytes = coded.bytes;
     let number = coded.number;
-    let packets = coded.packets.as_slice();
+    let packets = coded.packets;
     let reduce = coded.reduce;
     let rect = tile(headers.siz(), number as u32);
     let codings = headers.codings(number).as_slice();

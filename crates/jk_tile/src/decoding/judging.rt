@@ -102,7 +102,13 @@ fn judge_resolution(
     let rect = source.rect();
     let (across, down) = precinct_count(&rect, source.coding(), r);
     let count = across * down;
-    let chains = packets_by_precinct(alloc, source.packets(), source.number(), r, count as usize)?;
+    let chains = packets_by_precinct(
+        alloc,
+        source.tile_packets(),
+        source.number(),
+        r,
+        count as usize,
+    )?;
     let mut numbers = Vec::new(alloc);
     for n in 0..count {
         follow(&chains, n as usize, &mut numbers)?;
@@ -145,7 +151,7 @@ pub fn judge_tile(alloc: Global, coded: &CodedTile<'_>) -> Result<(), Fault>
             top: coding.levels - reduce,
             area,
         };
-        let packets = coded.packets.as_slice();
+        let packets = coded.packets;
         let source = CodedComponent::new(coded.bytes, region, coding, packets, c as u8, &none);
         judge_component(alloc, &source)?;
     }

@@ -185,7 +185,13 @@ pub(crate) fn read_resolution(
     let (rect, region) = (source.rect(), source.region());
     let (across, down) = precinct_count(&rect, source.coding(), r);
     let count = across * down;
-    let chains = packets_by_precinct(alloc, source.packets(), source.number(), r, count as usize)?;
+    let chains = packets_by_precinct(
+        alloc,
+        source.tile_packets(),
+        source.number(),
+        r,
+        count as usize,
+    )?;
     let mut rows = begin_level(alloc, &region, r, below)?;
     let mut numbers = Vec::new(alloc);
     for n in 0..count {

@@ -61,7 +61,7 @@ fn read_components(
     let headers = coded.headers;
     let bytes = coded.bytes;
     let number = coded.number;
-    let packets = coded.packets.as_slice();
+    let packets = coded.packets;
     let reduce = coded.reduce;
     let codings = headers.codings(number).as_slice();
     let mut values = Vec::new(alloc);

@@ -1,10 +1,7 @@
-use Rattle.std.proofs.Common.{rules, ◌≡◌, ◌<◌, ◌≤◌, ◌^◌, List, length, ◌∙◌, ap, sym, subst, arith}
-use Rattle.std.specs.List.{AllByRecursion}
+use Rattle.std.proofs.Common.{rules, ◌≡◌, ◌<◌, ◌^◌, length, ◌∙◌, ap, sym, subst, arith}
 use Rattle.jk_math.specs.declared.rect.Rect.{Rect}
 use Rattle.jk_geom.specs.Rectangles.{tile_area, resolution_area}
 use Rattle.jk_params.specs.Headers.{tile_in}
-use Rattle.jk_walk.specs.declared.places.PacketPlace.{PacketPlace}
-use Rattle.jk_walk.specs.WalkReading.{place_end}
 use Rattle.jk_tile.specs.Filling.{IsPartOf}
 use Rattle.jk_geom.specs.TileShapes.{coding_of}
 use Rattle.jk_tile.specs.TileMeaning.{shown_area}
@@ -29,10 +26,8 @@ new-requires-clause-source c =
     let coding = coding_read codings c.as_slice.result.now c.args.c c.index-as_slice-c.result slice lt c.index-as_slice-c.is in
     let fits : length i.bytes.now < 2 ^ 64 = search rules in
     let inside = subst (IsPartOf c.resolution.result) area (whole_of c.resolution.result c.resolution.ensures.area) in
-    let ends = subst (AllByRecursion (λ w. place_end w ≤ length i.bytes.now)) (sym c.as_slice-2.ensures.value) c.coded.invariant.ends in
-    let packets = subst (λ (ws : List PacketPlace). length ws ≤ 2 ^ 24) (sym c.as_slice-2.ensures.value) c.as_slice-2.ensures.few in
     let levels = levels_read codings c.args.c i.reduce c.index-as_slice-c.result c.coded.invariant.levels lt coding in
-    source_is i.bytes.now h t c.args.c i.reduce c.tile-rect.result c.resolution.result c.index-as_slice-c.result c.as_slice-2.result.now c.coded.invariant.sound c.coded.invariant.is_tile lt c.tile-rect.ensures.area rect coding levels inside fits ends packets
+    source_is i.bytes.now h t c.args.c i.reduce c.tile-rect.result c.resolution.result c.index-as_slice-c.result i.packets.now c.coded.invariant.sound c.coded.invariant.is_tile lt c.tile-rect.ensures.area rect coding levels inside fits c.coded.invariant.ends
 
 pub returns-clause-value : goal.returns-clause-value
 returns-clause-value c =
@@ -47,9 +42,8 @@ returns-clause-value c =
     let area = c.resolution.ensures.value ∙ ap (λ (a : Rect). resolution_area a i.reduce 0) rect in
     let coding = coding_read codings c.as_slice.result.now c.args.c c.index-as_slice-c.result slice lt c.index-as_slice-c.is in
     subst (λ (s : TileSource). c.new.result ≡ component_in s c.args.c) c.coded.view_is
-    (c.new.ensures ∙ source_here i.bytes.now h t i.reduce c.args.c c.tile-rect.result c.resolution.result c.index-as_slice-c.result c.as_slice-2.result.now rect coding
-    ∙ ap (λ (u : Rect). source_of i.bytes.now (tile_area h.siz t) (coding_of codings c.args.c) i.reduce u c.as_slice-2.result.now c.args.c) area
-    ∙ ap (λ (ws : List PacketPlace). source_of i.bytes.now (tile_area h.siz t) (coding_of codings c.args.c) i.reduce (shown_area h.siz t i.reduce) ws c.args.c) c.as_slice-2.ensures.value)
+    (c.new.ensures ∙ source_here i.bytes.now h t i.reduce c.args.c c.tile-rect.result c.resolution.result c.index-as_slice-c.result i.packets.now rect coding
+    ∙ ap (λ (u : Rect). source_of i.bytes.now (tile_area h.siz t) (coding_of codings c.args.c) i.reduce u i.packets.now c.args.c) area)
 
 pub returns-clause-top : goal.returns-clause-top
 returns-clause-top c =

@@ -28,13 +28,13 @@ returns-clause-put g c =
           ∙ append_assoc old (part_head head segments c.content_size-due.result) put.0
           ∙ ap (λ k. old ++ (part_head head segments k ++ put.0)) (sym put.2),
       λ code keeping long held. (
-        c.in_ok-entries.entries.items,
-        (λ i. entries_in code (sym shape i) (sym cod i).sop (sym cod i).eph c.args.part) ∙ c.in_ok-entries.ensures.read code keeping long held,
+        c.in_ok-packets.packets.entries.items,
+        (λ i. entries_in code (sym shape i) (sym cod i).sop (sym cod i).eph c.args.part) ∙ c.in_ok-packets.ensures.read code keeping long held,
         (let top : c.meet-top.result ≡ meet w (reduced_area (shape_in h.siz (tile_in h.tiles c.args.tile) c.args.tile).rect d) =
             c.meet-top.ensures ∙ ap (meet w) (c.reduced.ensures.value ∙ ap (λ (s : TileShape). reduced_area s.rect d) shape) in
-            let names : c.deref-4.result.now ≡ order (shape_in h.siz (tile_in h.tiles c.args.tile) c.args.tile) = c.deref-4.ensures.value ∙ c.in_ok-names.ensures.value ∙ ap order shape in
-            let entries : c.deref-5.result.now ≡ c.in_ok-entries.entries.items = c.deref-5.ensures.value in
-            put.3 code keeping (c.in_ok-entries.ensures.held code keeping held)
+            let names : c.as_slice-names.result.now ≡ order (shape_in h.siz (tile_in h.tiles c.args.tile) c.args.tile) = c.as_slice-names.ensures.value ∙ c.in_ok-packets.ensures.order ∙ ap order shape in
+            let entries : c.as_slice-entries.result.now ≡ c.in_ok-packets.packets.entries.items = c.as_slice-entries.ensures.value in
+            put.3 code keeping (c.in_ok-packets.ensures.held code keeping held)
             ∙ (λ i. flat_map (packet_of code (wanted (shape i) (top i) d (shape i).layers) (cod i).eph) (zip (names i) (entries i)))),
       ),
     )

@@ -1,9 +1,12 @@
-use Rattle.std.proofs.Common.{◌≡◌, ◌+◌, ◌-◌, ◌<◌, ℕ, length, get_or, set, nat_lt, sym, ap, subst, ◌∙◌, arith}
+use Rattle.std.proofs.Common.{rules, replicate, ◌≡◌, ◌+◌, ◌-◌, ◌<◌, ℕ, suc, List, length, get_or, set, nat_lt, sym, ap, subst, ◌∙◌, arith}
 use Rattle.std.specs.Prelude.{Bool, not, ◌&&◌, ◌==◌}
+use Rattle.std.proofs.lemmas.Grind.{get_or_default_zero}
 use Rattle.jk_walk.specs.declared.places.PacketPlace.{PacketPlace}
-use Rattle.jk_tile.specs.decoding.Gathered.{AreByPrecinct}
+use Rattle.jk_walk.specs.WalkReading.{full_numbers}
+use Rattle.jk_tile.specs.decoding.Gathered.{place_in, AreByPrecinct}
 use Rattle.jk_tile.proofs.decoding.Gathering.{place_read}
-use Rattle.jk_tile.proofs.decoding.Chaining.{chains_past, chains_more}
+use Rattle.jk_tile.proofs.decoding.Chaining.{chains_none, chains_past, chains_more}
+use Rattle.jk_tile.proofs.decoding.Full.{reached, full_in, chains_behind, chains_all, chains_none_yet}
 use Rattle.jk_tile.proofs.decoding.chains.packets_by_precinct.Goals as goal
 
 -- whether a packet is of the resolution and has something
@@ -11,43 +14,109 @@ abbrev is_full : (component resolution precincts : ℕ) → PacketPlace → Bool
 is_full component resolution precincts w =
     ((w.name.component == component) && ((w.name.resolution == resolution) && nat_lt w.name.precinct precincts)) && not (length w.parts == 0)
 
-pub loop-number-preserved-then-taken : goal.loop-number-preserved-then-taken
-loop-number-preserved-then-taken c =
+pub loop-left-init : goal.loop-left-init
+loop-left-init c =
     let ws = c.args.packets.now in
-    let m = c.loop-number.number - 1 in
-    let some = c.loop-number-test.true in
-    let within = c.loop-number.invariant.within in
-    let lt : m < length ws = omega (arith, some, within) in
-    let back : c.loop-number.number ≡ m + 1 = omega (arith, some) in
-    let read = c.index-packets-number.is ∙ place_read ws m c.index-packets-number.result lt in
-    let said = c.is_full_of_resolution-taken.ensures ∙ ap (is_full c.args.component c.args.resolution c.args.precincts) read in
-    let old = c.loop-number.chains in
-    let first = c.link.ensures.first ∙ ap (λ (w : PacketPlace). set old.first.items w.name.precinct (m + 1)) read in
-    let next = c.link.ensures.next ∙ ap (λ (w : PacketPlace). set old.next.items m (get_or old.first.items w.name.precinct 0)) read in
-    let before = subst (λ i. AreByPrecinct ws i c.args.component c.args.resolution c.args.precincts old) back c.loop-number.invariant.chains in
+    let all = ap (λ (ns : List ℕ). length ns) c.full-full.ensures.value in
+    let none : AreByPrecinct ws (length ws) c.args.component c.args.resolution c.args.precincts record { first = c.in_ok-vec.field-0; next = c.in_ok-vec-2.field-0 } =
+    (let first : c.in_ok-vec.field-0.items ≡ replicate c.args.precincts 0 = search rules in
+    let next : c.in_ok-vec-2.field-0.items ≡ replicate (length ws) 0 = search rules in
+    chains_none ws c.args.component c.args.resolution c.args.precincts record { first = c.in_ok-vec.field-0; next = c.in_ok-vec-2.field-0 } first next) in
     record {
-      within = omega (arith, within);
-      chains = chains_more ws c.args.component c.args.resolution c.args.precincts m old c.link.new.chains lt (sym said ∙ c.if-taken.true) first next before;
+      within = omega (arith, all);
+      chains = subst (λ i. AreByPrecinct ws i c.args.component c.args.resolution c.args.precincts record { first = c.in_ok-vec.field-0; next = c.in_ok-vec-2.field-0 }) (sym (chains_none_yet ws) ∙ ap (reached ws) (sym all)) none;
     }
 
-pub loop-number-preserved : goal.loop-number-preserved
-loop-number-preserved c =
+pub bounds-full-left : goal.bounds-full-left
+bounds-full-left c =
+    let all = ap (λ (ns : List ℕ). length ns) c.full-full.ensures.value in
+    let within = c.loop-left.invariant.within in
+    let some = c.loop-left-test.true in
+    omega (arith, all, within, some)
+
+pub bounds-places-number : goal.bounds-places-number
+bounds-places-number c =
     let ws = c.args.packets.now in
-    let m = c.loop-number.number - 1 in
-    let some = c.loop-number-test.true in
-    let within = c.loop-number.invariant.within in
-    let lt : m < length ws = omega (arith, some, within) in
-    let back : c.loop-number.number ≡ m + 1 = omega (arith, some) in
-    let read = c.index-packets-number.is ∙ place_read ws m c.index-packets-number.result lt in
+    let k = c.loop-left.left - 1 in
+    let within = c.loop-left.invariant.within in
+    let some = c.loop-left-test.true in
+    let inside = full_in 0 ws k (omega (arith, within, some)) in
+    let number = ap (λ (ns : List ℕ). get_or ns k 0) c.full-full.ensures.value in
+    let long = ap (λ (ws : List PacketPlace). length ws) c.as_slice-places.ensures.value in
+    omega (arith, inside, number, long)
+
+pub link-requires-clause-number : goal.link-requires-clause-number
+link-requires-clause-number c =
+    let ws = c.args.packets.now in
+    let k = c.loop-left.left - 1 in
+    let within = c.loop-left.invariant.within in
+    let some = c.loop-left-test.true in
+    let inside = full_in 0 ws k (omega (arith, within, some)) in
+    let number = ap (λ (ns : List ℕ). get_or ns k 0) c.full-full.ensures.value in
+    let long = c.loop-left.invariant.chains.next in
+    omega (arith, inside, number, long)
+
+pub link-requires-clause-few : goal.link-requires-clause-few
+link-requires-clause-few c =
+    let ws = c.args.packets.now in
+    let k = c.loop-left.left - 1 in
+    let within = c.loop-left.invariant.within in
+    let some = c.loop-left-test.true in
+    let inside = full_in 0 ws k (omega (arith, within, some)) in
+    let number = ap (λ (ns : List ℕ). get_or ns k 0) c.full-full.ensures.value in
+    let few = c.full-full.ensures.few in
+    omega (arith, inside, number, few)
+
+pub loop-left-preserved-then-taken : goal.loop-left-preserved-then-taken
+loop-left-preserved-then-taken c =
+    let ws = c.args.packets.now in
+    let k = c.loop-left.left - 1 in
+    let m = get_or (full_numbers 0 ws) k 0 in
+    let within = c.loop-left.invariant.within in
+    let some = c.loop-left-test.true in
+    let lt : k < length (full_numbers 0 ws) = omega (arith, within, some) in
+    let inside : m < length ws = (let deep = full_in 0 ws k lt in omega (arith, deep)) in
+    let back : c.loop-left.left ≡ suc k = omega (arith, some) in
+    let number = ap (λ (ns : List ℕ). get_or ns k 0) c.full-full.ensures.value in
+    let read = c.index-places-number.is ∙ ap (λ (ws : List PacketPlace). get_or ws (get_or c.full-full.result.now k 0) c.index-places-number.result) c.as_slice-places.ensures.value
+    ∙ ap (λ i. get_or ws i c.index-places-number.result) number ∙ place_read ws m c.index-places-number.result inside in
     let said = c.is_full_of_resolution-taken.ensures ∙ ap (is_full c.args.component c.args.resolution c.args.precincts) read in
-    let old = c.loop-number.chains in
-    let before = subst (λ i. AreByPrecinct ws i c.args.component c.args.resolution c.args.precincts old) back c.loop-number.invariant.chains in
+    let old = c.loop-left.chains in
+    let first = c.link.ensures.first ∙ ap (λ (w : PacketPlace). set old.first.items w.name.precinct (get_or c.full-full.result.now k 0 + 1)) read ∙ ap (λ i. set old.first.items (place_in ws m).name.precinct (i + 1)) number in
+    let next = c.link.ensures.next ∙ ap (λ (w : PacketPlace). set old.next.items (get_or c.full-full.result.now k 0) (get_or old.first.items w.name.precinct 0)) read
+    ∙ ap (λ i. set old.next.items i (get_or old.first.items (place_in ws m).name.precinct 0)) number in
+    let before = chains_behind ws c.args.component c.args.resolution c.args.precincts k old lt (subst (λ i. AreByPrecinct ws (reached ws i) c.args.component c.args.resolution c.args.precincts old) back c.loop-left.invariant.chains) in
+    let now = chains_more ws c.args.component c.args.resolution c.args.precincts m old c.link.new.chains inside (sym said ∙ c.if-taken.true) first next before in
     record {
       within = omega (arith, within);
-      chains = chains_past ws c.args.component c.args.resolution c.args.precincts m old lt (sym said ∙ c.if-taken.false) before;
+      chains = subst (λ i. AreByPrecinct ws i c.args.component c.args.resolution c.args.precincts c.link.new.chains) (sym (get_or_default_zero (full_numbers 0 ws) k (length ws) lt)) now;
+    }
+
+pub loop-left-preserved : goal.loop-left-preserved
+loop-left-preserved c =
+    let ws = c.args.packets.now in
+    let k = c.loop-left.left - 1 in
+    let m = get_or (full_numbers 0 ws) k 0 in
+    let within = c.loop-left.invariant.within in
+    let some = c.loop-left-test.true in
+    let lt : k < length (full_numbers 0 ws) = omega (arith, within, some) in
+    let inside : m < length ws = (let deep = full_in 0 ws k lt in omega (arith, deep)) in
+    let back : c.loop-left.left ≡ suc k = omega (arith, some) in
+    let number = ap (λ (ns : List ℕ). get_or ns k 0) c.full-full.ensures.value in
+    let read = c.index-places-number.is ∙ ap (λ (ws : List PacketPlace). get_or ws (get_or c.full-full.result.now k 0) c.index-places-number.result) c.as_slice-places.ensures.value
+    ∙ ap (λ i. get_or ws i c.index-places-number.result) number ∙ place_read ws m c.index-places-number.result inside in
+    let said = c.is_full_of_resolution-taken.ensures ∙ ap (is_full c.args.component c.args.resolution c.args.precincts) read in
+    let old = c.loop-left.chains in
+    let before = chains_behind ws c.args.component c.args.resolution c.args.precincts k old lt (subst (λ i. AreByPrecinct ws (reached ws i) c.args.component c.args.resolution c.args.precincts old) back c.loop-left.invariant.chains) in
+    let now = chains_past ws c.args.component c.args.resolution c.args.precincts m old inside (sym said ∙ c.if-taken.false) before in
+    record {
+      within = omega (arith, within);
+      chains = subst (λ i. AreByPrecinct ws i c.args.component c.args.resolution c.args.precincts old) (sym (get_or_default_zero (full_numbers 0 ws) k (length ws) lt)) now;
     }
 
 pub returns-clause-chains : goal.returns-clause-chains
 returns-clause-chains c =
-    let over : c.loop-number.number ≡ 0 = omega (arith, c.loop-number-test.false) in
-    subst (λ i. AreByPrecinct c.args.packets.now i c.args.component c.args.resolution c.args.precincts c.loop-number.chains) over c.loop-number.invariant.chains
+    let ws = c.args.packets.now in
+    let over : c.loop-left.left ≡ 0 = omega (arith, c.loop-left-test.false) in
+    chains_all ws c.args.component c.args.resolution c.args.precincts c.loop-left.chains
+    (subst (λ i. AreByPrecinct ws (reached ws i) c.args.component c.args.resolution c.args.precincts c.loop-left.chains) over c.loop-left.invariant.chains)

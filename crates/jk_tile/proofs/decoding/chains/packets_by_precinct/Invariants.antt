@@ -1,9 +1,14 @@
 use Rattle.std.proofs.Common.{◌≤◌, length}
+use Rattle.jk_walk.specs.WalkReading.{full_numbers}
 use Rattle.jk_tile.specs.decoding.Gathered.{AreByPrecinct}
+use Rattle.jk_tile.proofs.decoding.Full.{reached}
 use Rattle.jk_tile.proofs.decoding.chains.packets_by_precinct.Given as goal
 
-abbrev pub invariant-loop-number : goal.invariant-loop-number
-invariant-loop-number l = record { within : l.number ≤ length l.packets; chains : AreByPrecinct l.packets l.number l.component l.resolution l.precincts l.chains }
+abbrev pub invariant-loop-left : goal.invariant-loop-left
+invariant-loop-left l = record {
+  within : l.left ≤ length (full_numbers 0 l.packets);
+  chains : AreByPrecinct l.packets (reached l.packets l.left) l.component l.resolution l.precincts l.chains;
+}
 
-abbrev pub decreases-loop-number : goal.decreases-loop-number
-decreases-loop-number l = l.number
+abbrev pub decreases-loop-left : goal.decreases-loop-left
+decreases-loop-left l = l.left

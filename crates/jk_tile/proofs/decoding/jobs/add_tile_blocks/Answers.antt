@@ -1,4 +1,4 @@
-use Rattle.std.proofs.Common.{rules, ◌<◌, ◌≤◌, ◌^◌, List, length, ◌∙◌, ap, sym, subst, arith}
+use Rattle.std.proofs.Common.{rules, ◌<◌, ◌^◌, List, length, ◌∙◌, ap, sym, subst, arith}
 use Rattle.jk_marks.specs.declared.coding.Coding.{Coding}
 use Rattle.jk_geom.specs.Rectangles.{tile_area}
 use Rattle.jk_params.specs.Headers.{tile_in}
@@ -8,9 +8,6 @@ use Rattle.jk_tile.specs.decoding.Source.{Source}
 use Rattle.jk_tile.specs.decoding.TileSources.{TileSource}
 use Rattle.jk_tile.specs.Filling.{IsPartOf}
 use Rattle.jk_tile.specs.TileMeaning.{shown_area}
-use Rattle.jk_walk.specs.declared.places.PacketPlace.{PacketPlace}
-use Rattle.jk_walk.specs.WalkReading.{place_end}
-use Rattle.std.specs.List.{AllByRecursion}
 use Rattle.jk_tile.proofs.decoding.jobs.add_tile_blocks.Goals as goal
 
 pub new-source-requires-clause-source : goal.new-source-requires-clause-source
@@ -22,10 +19,8 @@ new-source-requires-clause-source c =
     let coding = coding_read (tile_in h.tiles c.coded.inside.number).codings c.as_slice-codings.result.now c.loop-c.c c.index-codings-c.result slice lt c.index-codings-c.is in
     let fits : length c.coded.inside.bytes.now < 2 ^ 64 = search rules in
     let inside = subst (λ (s : TileSource). IsPartOf c.args.area.now (shown_area s.headers.siz s.number s.reduce)) (sym c.coded.view_is) c.requires in
-    let ends = subst (AllByRecursion (λ w. place_end w ≤ length c.coded.inside.bytes.now)) (sym c.as_slice-packets.ensures.value) c.coded.invariant.ends in
-    let few = subst (λ (ws : List PacketPlace). length ws ≤ 2 ^ 24) (sym c.as_slice-packets.ensures.value) c.as_slice-packets.ensures.few in
     let levels = levels_read (tile_in h.tiles c.coded.inside.number).codings c.loop-c.c c.coded.inside.reduce c.index-codings-c.result c.coded.invariant.levels lt coding in
-    source_is c.coded.inside.bytes.now h c.coded.inside.number c.loop-c.c c.coded.inside.reduce c.tile-rect.result c.args.area.now c.index-codings-c.result c.as_slice-packets.result.now c.coded.invariant.sound c.coded.invariant.is_tile lt c.tile-rect.ensures.area rect coding levels inside fits ends few
+    source_is c.coded.inside.bytes.now h c.coded.inside.number c.loop-c.c c.coded.inside.reduce c.tile-rect.result c.args.area.now c.index-codings-c.result c.coded.inside.packets.now c.coded.invariant.sound c.coded.invariant.is_tile lt c.tile-rect.ensures.area rect coding levels inside fits c.coded.invariant.ends
 
 pub loop-c-preserved : goal.loop-c-preserved
 loop-c-preserved c = λ all.

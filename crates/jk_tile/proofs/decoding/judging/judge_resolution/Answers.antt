@@ -18,8 +18,8 @@ follow-requires-clause-chain c = let own = c.in_ok-chains.ensures.chains.each c.
 
 pub judge_precinct-requires-clause-numbers : goal.judge_precinct-requires-clause-numbers
 judge_precinct-requires-clause-numbers c =
-    followed_numbers c.args.source.now c.args.r c.loop-n.n (c.precinct_count-across.result.0 * c.precinct_count-across.result.1) c.packets.result.now c.number.result c.in_ok-chains.chains c.follow.new.numbers.items c.deref.result.now
-    c.packets.ensures c.number.ensures c.in_ok-chains.ensures.chains c.loop-n-test.true c.in_ok-follow.ensures.numbers c.deref.ensures.value
+    followed_numbers c.args.source.now c.args.r c.loop-n.n (c.precinct_count-across.result.0 * c.precinct_count-across.result.1) c.tile_packets.result.now c.number.result c.in_ok-chains.chains c.follow.new.numbers.items c.deref.result.now
+    c.tile_packets.ensures c.number.ensures c.in_ok-chains.ensures.chains c.loop-n-test.true c.in_ok-follow.ensures.numbers c.deref.ensures.value
 
 pub returns-in_err-judge_precinct : goal.returns-in_err-judge_precinct
 returns-in_err-judge_precinct c =

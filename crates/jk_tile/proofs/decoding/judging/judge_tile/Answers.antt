@@ -1,13 +1,10 @@
-use Rattle.std.proofs.Common.{rules, ◌≡◌, ◌+◌, ◌<◌, ◌≤◌, ◌^◌, List, length, Err, ◌∙◌, ap, sym, subst, arith}
-use Rattle.std.specs.List.{AllByRecursion}
+use Rattle.std.proofs.Common.{rules, ◌≡◌, ◌+◌, ◌<◌, ◌^◌, List, length, Err, ◌∙◌, ap, sym, subst, arith}
 use Rattle.std.proofs.lemmas.Result.{err_from_is_err_and}
 use Rattle.jk_math.specs.declared.rect.Rect.{Rect}
 use Rattle.jk_marks.specs.declared.coding.Coding.{Coding}
 use Rattle.jk_geom.specs.Rectangles.{tile_area, resolution_area}
 use Rattle.jk_geom.specs.TileShapes.{coding_of}
 use Rattle.jk_params.specs.Headers.{tile_in}
-use Rattle.jk_walk.specs.declared.places.PacketPlace.{PacketPlace}
-use Rattle.jk_walk.specs.WalkReading.{place_end}
 use Rattle.jk_tile.specs.Filling.{IsPartOf}
 use Rattle.jk_tile.specs.decoding.TileReading.{each, tested, component_tested, resolution_tested, bodies_of, tile_planes_at}
 use Rattle.jk_tile.specs.decoding.TileSources.{TileSource}
@@ -33,10 +30,8 @@ new-source-requires-clause-source c =
     let coding = coding_read codings c.as_slice-codings.result.now c.loop-c.c c.index-codings-c.result slice lt c.index-codings-c.is in
     let fits : length i.bytes.now < 2 ^ 64 = search rules in
     let inside = subst (IsPartOf c.resolution-area.result) area (whole_of c.resolution-area.result c.resolution-area.ensures.area) in
-    let ends = subst (AllByRecursion (λ w. place_end w ≤ length i.bytes.now)) (sym c.as_slice-packets.ensures.value) c.coded.invariant.ends in
-    let few = subst (λ (ws : List PacketPlace). length ws ≤ 2 ^ 24) (sym c.as_slice-packets.ensures.value) c.as_slice-packets.ensures.few in
     let levels = levels_read codings c.loop-c.c i.reduce c.index-codings-c.result c.coded.invariant.levels lt coding in
-    source_is i.bytes.now h t c.loop-c.c i.reduce c.tile-rect.result c.resolution-area.result c.index-codings-c.result c.as_slice-packets.result.now c.coded.invariant.sound c.coded.invariant.is_tile lt c.tile-rect.ensures.area rect coding levels inside fits ends few
+    source_is i.bytes.now h t c.loop-c.c i.reduce c.tile-rect.result c.resolution-area.result c.index-codings-c.result i.packets.now c.coded.invariant.sound c.coded.invariant.is_tile lt c.tile-rect.ensures.area rect coding levels inside fits c.coded.invariant.ends
 
 pub returns-in_err-judge_component : goal.returns-in_err-judge_component
 returns-in_err-judge_component c =
@@ -44,7 +39,6 @@ returns-in_err-judge_component c =
     let h = i.headers.now in
     let t = i.number in
     let codings = (tile_in h.tiles t).codings in
-    let places = c.as_slice-packets.result.now in
     let slice = c.as_slice-codings.ensures ∙ c.codings.ensures in
     let few : c.loop-c.c < length codings = omega (arith, c.loop-c-test.true, ap (λ (ks : List Coding). length ks) slice) in
     let rect = c.tile-rect.ensures.value ∙ ap (λ s. tile_area s t) c.siz.ensures in
@@ -59,8 +53,7 @@ returns-in_err-judge_component c =
           (λ is. subst (λ (s : TileSource). tested (tile_planes_at s.bytes s.headers s.number s.reduce s.packets) ≡ Err e) c.coded.view_is
           (tile_err i.bytes.now h t i.reduce i.packets.now e
           (each_fails h.siz.components c.loop-c.c (λ k. component_tested (tile_area h.siz t) (coding_of codings k) i.reduce (bodies_of i.bytes.now i.packets.now k)) e lt before
-          (ap (λ (ws : List PacketPlace). component_tested (tile_area h.siz t) (coding_of codings c.loop-c.c) i.reduce (bodies_of i.bytes.now ws c.loop-c.c)) (sym c.as_slice-packets.ensures.value)
-          ∙ sym (component_is i.bytes.now h t i.reduce c.loop-c.c c.tile-rect.result c.resolution-area.result c.index-codings-c.result places s c.new-source.ensures rect coding) ∙ is)))));
+          (sym (component_is i.bytes.now h t i.reduce c.loop-c.c c.tile-rect.result c.resolution-area.result c.index-codings-c.result i.packets.now s c.new-source.ensures rect coding) ∙ is)))));
     }
 
 pub loop-c-preserved : goal.loop-c-preserved
@@ -69,7 +62,6 @@ loop-c-preserved c =
     let h = i.headers.now in
     let t = i.number in
     let codings = (tile_in h.tiles t).codings in
-    let places = c.as_slice-packets.result.now in
     let slice = c.as_slice-codings.ensures ∙ c.codings.ensures in
     let few : c.loop-c.c < length codings = omega (arith, c.loop-c-test.true, ap (λ (ks : List Coding). length ks) slice) in
     let rect = c.tile-rect.ensures.value ∙ ap (λ s. tile_area s t) c.siz.ensures in
@@ -77,8 +69,7 @@ loop-c-preserved c =
     let before = subst (λ (s : TileSource). components_tested s.bytes s.headers s.number s.reduce s.packets c.loop-c.c ≡ fine) (sym c.coded.view_is) c.loop-c.invariant in
     subst (λ (s : TileSource). components_tested s.bytes s.headers s.number s.reduce s.packets (c.loop-c.c + 1) ≡ fine) c.coded.view_is
     (each_more c.loop-c.c (λ k. component_tested (tile_area h.siz t) (coding_of codings k) i.reduce (bodies_of i.bytes.now i.packets.now k)) before
-    (ap (λ (ws : List PacketPlace). component_tested (tile_area h.siz t) (coding_of codings c.loop-c.c) i.reduce (bodies_of i.bytes.now ws c.loop-c.c)) (sym c.as_slice-packets.ensures.value)
-    ∙ sym (component_is i.bytes.now h t i.reduce c.loop-c.c c.tile-rect.result c.resolution-area.result c.index-codings-c.result places c.new-source.result c.new-source.ensures rect coding) ∙ c.in_ok-judge_component.ensures.exact))
+    (sym (component_is i.bytes.now h t i.reduce c.loop-c.c c.tile-rect.result c.resolution-area.result c.index-codings-c.result i.packets.now c.new-source.result c.new-source.ensures rect coding) ∙ c.in_ok-judge_component.ensures.exact))
 
 pub returns : goal.returns
 returns c =

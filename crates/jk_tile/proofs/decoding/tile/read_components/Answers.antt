@@ -1,5 +1,5 @@
-use Rattle.std.proofs.Common.{rules, ◌≡◌, ◌<◌, ◌≤◌, ◌^◌, List, ℤ, length, map, All, Ok, Err, ◌∙◌, ap, sym, subst, arith}
-use Rattle.std.specs.List.{AllByRecursion, range_with_len}
+use Rattle.std.proofs.Common.{rules, ◌≡◌, ◌<◌, ◌^◌, List, ℤ, length, map, All, Ok, Err, ◌∙◌, ap, sym, subst, arith}
+use Rattle.std.specs.List.{range_with_len}
 use Rattle.std.proofs.lemmas.List.Elements.{All-nil}
 use Rattle.std.proofs.lemmas.Result.{err_from_is_err_and}
 use Rattle.std.specs.Global.{Vec}
@@ -10,8 +10,6 @@ use Rattle.jk_marks.specs.declared.coding.Coding.{Coding}
 use Rattle.jk_geom.specs.Rectangles.{tile_area}
 use Rattle.jk_geom.specs.TileShapes.{coding_of}
 use Rattle.jk_params.specs.Headers.{tile_in}
-use Rattle.jk_walk.specs.declared.places.PacketPlace.{PacketPlace}
-use Rattle.jk_walk.specs.WalkReading.{place_end}
 use Rattle.jk_tile.specs.Filling.{IsPartOf}
 use Rattle.jk_tile.specs.TileMeaning.{shown_area}
 use Rattle.jk_tile.specs.decoding.TileReading.{each, component_part_tested, bodies_of, component_values, part_values_at}
@@ -37,10 +35,8 @@ new-source-requires-clause-source c =
     let coding = coding_read (tile_in h.tiles c.coded.inside.number).codings c.as_slice-codings.result.now c.loop-c.c c.index-codings-c.result slice lt c.index-codings-c.is in
     let fits : length c.coded.inside.bytes.now < 2 ^ 64 = search rules in
     let inside = subst (λ (s : TileSource). IsPartOf c.args.area.now (shown_area s.headers.siz s.number s.reduce)) (sym c.coded.view_is) c.requires.inside in
-    let ends = subst (AllByRecursion (λ w. place_end w ≤ length c.coded.inside.bytes.now)) (sym c.as_slice-packets.ensures.value) c.coded.invariant.ends in
-    let few = subst (λ (ws : List PacketPlace). length ws ≤ 2 ^ 24) (sym c.as_slice-packets.ensures.value) c.as_slice-packets.ensures.few in
     let levels = levels_read (tile_in h.tiles c.coded.inside.number).codings c.loop-c.c c.coded.inside.reduce c.index-codings-c.result c.coded.invariant.levels lt coding in
-    source_is c.coded.inside.bytes.now h c.coded.inside.number c.loop-c.c c.coded.inside.reduce c.tile-rect.result c.args.area.now c.index-codings-c.result c.as_slice-packets.result.now c.coded.invariant.sound c.coded.invariant.is_tile lt c.tile-rect.ensures.area rect coding levels inside fits ends few
+    source_is c.coded.inside.bytes.now h c.coded.inside.number c.loop-c.c c.coded.inside.reduce c.tile-rect.result c.args.area.now c.index-codings-c.result c.coded.inside.packets.now c.coded.invariant.sound c.coded.invariant.is_tile lt c.tile-rect.ensures.area rect coding levels inside fits c.coded.invariant.ends
 
 pub returns-in_err-read_component-clause-exact : goal.returns-in_err-read_component-clause-exact
 returns-in_err-read_component-clause-exact c =
@@ -56,10 +52,9 @@ returns-in_err-read_component-clause-exact c =
     let lt : c.loop-c.c < h.siz.components = omega (arith, few, (c.coded.invariant.sound.each t c.coded.invariant.is_tile).all) in
     rw (q.1, q.2) (refuses_on e (source_values s) _ c.in_err-read_component.ensures.exact
     (λ is. subst (λ (s : TileSource). part_values_at s.bytes s.headers s.number s.reduce c.args.area.now s.packets ≡ Err e) c.coded.view_is
-    (ap (part_values_at c.coded.inside.bytes.now h t c.coded.inside.reduce c.args.area.now) (sym c.as_slice-packets.ensures.value)
-    ∙ values_err c.coded.inside.bytes.now h t c.coded.inside.reduce c.args.area.now c.as_slice-packets.result.now e
-    (each_fails h.siz.components c.loop-c.c (λ i. component_part_tested (tile_area h.siz t) (coding_of (tile_in h.tiles t).codings i) c.coded.inside.reduce c.args.area.now (bodies_of c.coded.inside.bytes.now c.as_slice-packets.result.now i)) e lt c.loop-c.invariant.tested
-    (component_not c.coded.inside.bytes.now h t c.coded.inside.reduce c.loop-c.c c.tile-rect.result c.args.area.now c.index-codings-c.result c.as_slice-packets.result.now s e c.new-source.ensures rect coding is)))))
+    (values_err c.coded.inside.bytes.now h t c.coded.inside.reduce c.args.area.now c.coded.inside.packets.now e
+    (each_fails h.siz.components c.loop-c.c (λ i. component_part_tested (tile_area h.siz t) (coding_of (tile_in h.tiles t).codings i) c.coded.inside.reduce c.args.area.now (bodies_of c.coded.inside.bytes.now c.coded.inside.packets.now i)) e lt c.loop-c.invariant.tested
+    (component_not c.coded.inside.bytes.now h t c.coded.inside.reduce c.loop-c.c c.tile-rect.result c.args.area.now c.index-codings-c.result c.coded.inside.packets.now s e c.new-source.ensures rect coding is)))))
 
 pub loop-c-preserved : goal.loop-c-preserved
 loop-c-preserved c =
@@ -70,10 +65,10 @@ loop-c-preserved c =
     let rect = c.tile-rect.ensures.value ∙ ap (λ s. tile_area s t) c.siz.ensures in
     let coding = coding_read (tile_in h.tiles t).codings c.as_slice-codings.result.now c.loop-c.c c.index-codings-c.result slice few c.index-codings-c.is in
     let v = c.in_ok-read_component.field-0 in
-    let is = component_then c.coded.inside.bytes.now h t c.coded.inside.reduce c.loop-c.c c.tile-rect.result c.args.area.now c.index-codings-c.result c.as_slice-packets.result.now c.new-source.result v.items c.new-source.ensures rect coding c.in_ok-read_component.ensures.exact in
+    let is = component_then c.coded.inside.bytes.now h t c.coded.inside.reduce c.loop-c.c c.tile-rect.result c.args.area.now c.index-codings-c.result c.coded.inside.packets.now c.new-source.result v.items c.new-source.ensures rect coding c.in_ok-read_component.ensures.exact in
     record {
-      tested = each_more c.loop-c.c (λ i. component_part_tested (tile_area h.siz t) (coding_of (tile_in h.tiles t).codings i) c.coded.inside.reduce c.args.area.now (bodies_of c.coded.inside.bytes.now c.as_slice-packets.result.now i)) c.loop-c.invariant.tested is.0;
-      lists = lists_push (λ i. raster c.args.area.now (component_values c.coded.inside.bytes.now h t c.coded.inside.reduce c.as_slice-packets.result.now i)) c.loop-c.c c.loop-c.values.items c.push.new.self.items v c.loop-c.invariant.lists c.in_ok-push.ensures.items is.1;
+      tested = each_more c.loop-c.c (λ i. component_part_tested (tile_area h.siz t) (coding_of (tile_in h.tiles t).codings i) c.coded.inside.reduce c.args.area.now (bodies_of c.coded.inside.bytes.now c.coded.inside.packets.now i)) c.loop-c.invariant.tested is.0;
+      lists = lists_push (λ i. raster c.args.area.now (component_values c.coded.inside.bytes.now h t c.coded.inside.reduce c.coded.inside.packets.now i)) c.loop-c.c c.loop-c.values.items c.push.new.self.items v c.loop-c.invariant.lists c.in_ok-push.ensures.items is.1;
       small = λ i. subst (λ (vs : List (Vec ℤ)). All (IsBelow (2 ^ 29)) (list_at vs i)) (sym c.in_ok-push.ensures.items) (small_push (2 ^ 29) c.loop-c.values.items v c.loop-c.invariant.small c.in_ok-read_component.ensures.small i);
     }
 
@@ -84,7 +79,6 @@ returns-clause-exact c =
     let slice = c.as_slice-codings.ensures ∙ c.codings.ensures in
     let all : c.loop-c.c ≡ h.siz.components = omega (arith, c.loop-c-test.false, c.loop-c.auto.c-end, ap (λ (ks : List Coding). length ks) slice, (c.coded.invariant.sound.each t c.coded.invariant.is_tile).all) in
     subst (λ (s : TileSource). part_values_at s.bytes s.headers s.number s.reduce c.args.area.now s.packets ≡ Ok (lists_of c.loop-c.values.items)) c.coded.view_is
-    (ap (part_values_at c.coded.inside.bytes.now h t c.coded.inside.reduce c.args.area.now) (sym c.as_slice-packets.ensures.value)
-    ∙ values_fine c.coded.inside.bytes.now h t c.coded.inside.reduce c.args.area.now c.as_slice-packets.result.now
-    (ap (λ n. each n (λ i. component_part_tested (tile_area h.siz t) (coding_of (tile_in h.tiles t).codings i) c.coded.inside.reduce c.args.area.now (bodies_of c.coded.inside.bytes.now c.as_slice-packets.result.now i))) (sym all) ∙ c.loop-c.invariant.tested)
-    ∙ ap Ok (ap (λ n. map (λ i. raster c.args.area.now (component_values c.coded.inside.bytes.now h t c.coded.inside.reduce c.as_slice-packets.result.now i)) (range_with_len 0 n)) (sym all) ∙ sym c.loop-c.invariant.lists))
+    (values_fine c.coded.inside.bytes.now h t c.coded.inside.reduce c.args.area.now c.coded.inside.packets.now
+    (ap (λ n. each n (λ i. component_part_tested (tile_area h.siz t) (coding_of (tile_in h.tiles t).codings i) c.coded.inside.reduce c.args.area.now (bodies_of c.coded.inside.bytes.now c.coded.inside.packets.now i))) (sym all) ∙ c.loop-c.invariant.tested)
+    ∙ ap Ok (ap (λ n. map (λ i. raster c.args.area.now (component_values c.coded.inside.bytes.now h t c.coded.inside.reduce c.coded.inside.packets.now i)) (range_with_len 0 n)) (sym all) ∙ sym c.loop-c.invariant.lists))

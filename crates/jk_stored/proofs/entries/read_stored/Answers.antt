@@ -3,10 +3,10 @@ use Rattle.jk_marks.specs.declared.coding.Coding.{Coding}
 use Rattle.jk_order.specs.PacketOrder.{packet_count, order}
 use Rattle.jk_walk.specs.WalkReading.{blank_states}
 use Rattle.jk_walk.specs.Keeping.{most_resolutions, states_in}
-use Rattle.jk_walk.proofs.Walking.{no_row, none_is}
-use Rattle.jk_stored.proofs.StoredWalk.{GoesOn, starts, next_is, goes_by, none_left, goes_first, goes_more, goes_done}
-use Rattle.jk_stored.proofs.entries.read_entries.Goals as goal
-use Rattle.jk_stored.proofs.entries.read_entries.Goals.{else-loop-test, then-loop-test+in_default}
+use Rattle.jk_walk.proofs.Walking.{no_row, first_is, none_is}
+use Rattle.jk_stored.proofs.StoredWalk.{GoesOn, starts, next_is, goes_by, none_left, goes_first, goes_more, goes_done, named_first, named_more, named_done}
+use Rattle.jk_stored.proofs.entries.read_stored.Goals as goal
+use Rattle.jk_stored.proofs.entries.read_stored.Goals.{else-loop-test, then-loop-test+in_default}
 
 pub loop-init : goal.loop-init
 loop-init g c =
@@ -22,6 +22,7 @@ loop-init g c =
       c.requires.part,
       λ f keeping held. c.aim.ensures.held f held,
       λ f keeping long held. subst (GoesOn f s sop eph c.args.part c.args.part.0 (order s) (blank_states s sop eph)) (sym c.in_ok-all.ensures.items) (goes_first f s sop eph c.args.part),
+      named_first s c.in_ok-names.names.items c.in_ok-names.ensures.items,
     )
 
 pub read_entry-requires-clause-name : goal.read_entry-requires-clause-name
@@ -53,10 +54,23 @@ loop-preserved g c =
       c.in_ok-entry.ensures.end,
       λ f keeping held. c.in_ok-entry.ensures.held f keeping (c.loop.invariant.2 f keeping held),
       λ f keeping long held.
-          subst (GoesOn f s sop eph c.args.part c.in_ok-entry.entry.end v.names v.states) (sym c.in_ok-push.ensures.items)
+          subst (GoesOn f s sop eph c.args.part c.in_ok-entry.entry.end v.names v.states) (sym c.in_ok-push-2.ensures.items)
           (goes_more f s sop eph c.args.part c.loop.at w.names w.states c.loop.all.items n (states_in s c.loop.precincts n.component n.resolution n.precinct) read.0 c.in_ok-entry.entry first.0 c.if-at-end.false next.own
           (read.2 f keeping long (c.loop.invariant.2 f keeping held)) (c.loop.invariant.3 f keeping long held)),
+      named_more s c.loop.names.items w.names v.names c.push.new.self.items n (first_is w.names n first.0) next.name c.in_ok-push.ensures.items c.loop.invariant.4,
     )
+
+pub returns-clause-order : goal.returns-clause-order
+returns-clause-order g c =
+    let w = c.loop.invariant.0 in
+    let over : w.names ≡ [] = elim c.loop-test.branch [
+      | else-loop-test v ↦ none_left _ _ _ _ _ _ w (omega (arith, v.loop-test.false))
+      | then-loop-test+in_default v ↦ none_is w.names (v.in_default.ensures w.names w.follow).0
+    ] in
+    named_done c.args.shape.now c.loop.names.items w.names over c.loop.invariant.4
+
+pub returns-clause-names : goal.returns-clause-names
+returns-clause-names g c = c.loop.invariant.4.each
 
 pub returns-clause-read : goal.returns-clause-read
 returns-clause-read g c = λ f keeping long held.
