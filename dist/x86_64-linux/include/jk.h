@@ -18,7 +18,7 @@ extern "C" {
 
 /* The version of this header: 10,000 times the major number, 100 times the minor one, and the patch. jk_version()
  * answers that of the library. */
-#define JK_VERSION 301u
+#define JK_VERSION 302u
 
 /* What calls answer. But for the last two these are the faults of `jk faults`. */
 enum {
