@@ -102,25 +102,25 @@ OTHERWISE = (
     ("vectors_files (output|replacing|beside)::failing_at_each_call", r"left: 2\n right: 1", DISK),
     ("vectors_files (output::a_pipe|replacing::as_it_is)", r'left: "look d/pipe;.*write d/pipe;"', DISK),
     ("vectors_files listing::one_of_each", r'left: "file.jp2 last.jp2 .*gone.jp2 NotFound', DISK),
-    ("vectors_pnm ", PASSES, "a list isn't shortened"),
-    ("vectors_pnm ", "a file: Shelf", WRITER),
+    ("vectors_formats pnm::", PASSES, "a list isn't shortened"),
+    ("vectors_formats pnm::", "a file: Shelf", WRITER),
     # Files written and read.
     ("vectors_codec (pages|written|sizes|writers)::", PASSES, "a list isn't shortened"),
     ("vectors_codec writers::", r'error: "(the first bytes of the file|the file|another answer)"', "F1 isn't told"),
     ("vectors_codec writers::a_known_file", r"left: \(?Err\(Shelf\)", WRITER),
     # Windows and code-blocks.
-    ("vectors_window decoded::windows_by_the_index", PASSES, "of two answers one is looked at"),
-    ("vectors_window decoded::windows_by_the_index", r"left: false\n right: true", "F1 is another answer"),
-    ("vectors_window views::", LESS, "the test counts a refused window as none"),
-    ("vectors_stored ", PASSES, "a window that isn't known is none, as one is that is refused"),
-    ("vectors_stored ", r"left: \(?(false|None)\b", "a window that is refused isn't known"),
-    ("vectors_stored ", r"left: \(true, false\)\n right: \(true, true\)", "the same window of all bytes is refused"),
-    ("vectors_stored ends::written_behind", r"left: Some\(Err\(Shelf\)\)", WRITER),
+    ("vectors_rows window::decoded::windows_by_the_index", PASSES, "of two answers one is looked at"),
+    ("vectors_rows window::decoded::windows_by_the_index", r"left: false\n right: true", "F1 is another answer"),
+    ("vectors_rows window::views::", LESS, "the test counts a refused window as none"),
+    ("vectors_line stored::", PASSES, "a window that isn't known is none, as one is that is refused"),
+    ("vectors_line stored::", r"left: \(?(false|None)\b", "a window that is refused isn't known"),
+    ("vectors_line stored::", r"left: \(true, false\)\n right: \(true, true\)", "the same window of all bytes is refused"),
+    ("vectors_line stored::ends::written_behind", r"left: Some\(Err\(Shelf\)\)", WRITER),
     # Command lines.
-    ("vectors_line ", r'"jk: F20 Shelf\\n"\)\n  left: \(Refused, .*\n right: \(Done, ', WRITER),
+    ("vectors_line (?!stored::)", r'"jk: F20 Shelf\\n"\)\n  left: \(Refused, .*\n right: \(Done, ', WRITER),
     ("vectors_line (outputs|telling)::", r'left: \(Refused, "jk: F20 Shelf\\n"\)\n right: \(Done, ""', WRITER),
-    ("vectors_line ", r'", "(?!jk: F20 Shelf\\n").*"\)\n  left: \((\w+), true, false\)\n right: \(\1, true, true\)',
-     TELLER),
+    ("vectors_line (?!stored::)",
+     r'", "(?!jk: F20 Shelf\\n").*"\)\n  left: \((\w+), true, false\)\n right: \(\1, true, true\)', TELLER),
     ("vectors_line lines::lines_are_judged", r"left: \(WrongLine, 0, true\)\n right: \(WrongLine, 0, false\)", TELLER),
     ("vectors_line numbers::negative_numbers", r"left: \(WrongLine, 0, false\)\n right: \(WrongLine, 0, true\)",
      TELLER),
@@ -161,17 +161,18 @@ OTHERWISE = (
     ("vectors_rows (drawings|encoding::files|suiting)", PASSES, "what was coded keeps the room in which it grew"),
     ("vectors_rows encoding::faults", PASSES, "the whole file is refused, and fewer rooms are tried"),
     ("vectors_rows (files|tests)::", PASSES, "an image that isn't encoded is passed over"),
-    ("vectors_rows ", r"right: \(?Err\(Memory", "the whole image, beside which rows stand, has no memory"),
+    ("vectors_rows (?!window::|workers::)", r"right: \(?Err\(Memory",
+     "the whole image, beside which rows stand, has no memory"),
     ("vectors_rows tests::", r"left: false\n right: true", "F1 is another answer"),
     ("vectors_rows (encoding|drawings|files)::", r"(left|right): \(?Err\(Shelf\)", WRITER),
     ("vectors_rows encoding::faults_by_rows", r"left: Some\(", WRITER),
-    ("vectors_farm ", PASSES, FEWER),
+    ("vectors_block farm::", PASSES, FEWER),
     ("vectors_codec written_with::", PASSES, FEWER),
     ("vectors_codec written_with::two_code", r"left: false\n right: true", FEWER),
-    ("vectors_workers ", PASSES, FEWER),
-    ("vectors_workers beside::who_calls", r"the meeting: \n +left: false", FEWER),
-    ("vectors_workers decoded::two_stripes", r"at src/decoded\.rt:\d+:\d+\n[23] FF4F", FEWER),
-    ("vectors_farm tests::two_are", r"test stopped at src/tests\.rt:\d+:\d+\n[23]$", FEWER),
+    ("vectors_rows workers::", PASSES, FEWER),
+    ("vectors_rows workers::beside::who_calls", r"the meeting: \n +left: false", FEWER),
+    ("vectors_rows workers::decoded::two_stripes", r"at src/workers/decoded\.rt:\d+:\d+\n[23] FF4F", FEWER),
+    ("vectors_block farm::tests::two_are", r"test stopped at src/farm/tests\.rt:\d+:\d+\n[23]$", FEWER),
 )
 
 # Tests that go on behind a refusal, and what each is to say at one growth at least.
@@ -181,15 +182,15 @@ BEHINDS = (
     ("vectors_hall refusals::what_waits_is_published_with_the_next", *WAITED),
     ("vectors_store refusals::a_refused_addition_changes_nothing", "it wasn't added and was added again"),
     ("vectors_web refusals::a_refused_session_stays_so", "it stayed refused"),
-    ("vectors_mq refusals::a_refused_encoder_stays_so", "it stayed refused"),
+    ("vectors_block mq::refusals::a_refused_encoder_stays_so", "it stayed refused"),
 )
 
 # Tests in which the last growths are refused in any case: behind them is a fault that mustn't be told first.
 ENDINGS, LAST = ("vectors_store first_faults::one_file_too_many",), 40
 # The tests that the gate takes, by how their names begin: they run in one thread, make few growths or go on behind a
 # refusal, and so the same growths are refused at each run.
-GATE = ("vectors_mq ", "vectors_block ", "vectors_lift ", "vectors_packet ", "vectors_order ", "vectors_boxes ",
-        "vectors_extras ", *(it[0] for it in BEHINDS), *ENDINGS)
+GATE = (*(f"vectors_block {it}::" for it in ("lift", "modelled", "mq", "tests", "written")), "vectors_packet ",
+        "vectors_formats boxes::", "vectors_formats extras::", *(it[0] for it in BEHINDS), *ENDINGS)
 
 # How many growths of a test are refused at least, and how long a run takes at least, in seconds.
 LEAST, SHORTEST = 3, 0.004

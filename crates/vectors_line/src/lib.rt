@@ -1,4 +1,4 @@
-//! The command line, run in memory, with answers from outside.
+//! The command line, run in memory, and windows of stored files, with answers from outside.
 #![tactic(auto)]
 
 #[cfg(test)]
@@ -19,6 +19,8 @@ mod outputs;
 mod progress;
 #[cfg(test)]
 mod runs;
+#[cfg(test)]
+mod stored;
 #[cfg(test)]
 mod telling;
 #[cfg(test)]

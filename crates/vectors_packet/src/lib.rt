@@ -1,5 +1,5 @@
-//! Rows of packets: stuffed bits, tag trees, headers, and packets that are written, against values
-//! from outside.
+//! Rows of packets: stuffed bits, tag trees, headers, packets that are written, and their order, against values from
+//! outside.
 #![tactic(auto)]
 
 #[cfg(test)]
@@ -8,6 +8,8 @@ mod bits;
 mod entries;
 #[cfg(test)]
 mod headers;
+#[cfg(test)]
+mod order;
 #[cfg(test)]
 mod precincts;
 #[cfg(test)]

@@ -15,7 +15,7 @@ use std::test::Fail;
 use std::thread::Threads;
 use vectors::{Meeting, equal, equal_at};
 
-/// A gate at which the first code-block meets the second.
+/// A gate at which the first job meets the second.
 #[derive(Drop)]
 pub(crate) struct Held {
     pub(crate) meeting: Meeting,

@@ -1,4 +1,5 @@
-//! Images decoded and encoded row by row beside whole ones.
+//! Images decoded and encoded row by row beside whole ones, whole files by several workers, and windows of files, with
+//! answers from outside.
 #![tactic(auto)]
 
 #[cfg(test)]
@@ -19,3 +20,7 @@ mod sources;
 mod suiting;
 #[cfg(test)]
 mod tests;
+#[cfg(test)]
+mod window;
+#[cfg(test)]
+mod workers;

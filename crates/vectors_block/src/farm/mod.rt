@@ -1,0 +1,4 @@
+//! Code-blocks on worker threads, with answers from outside.
+
+mod cases;
+mod tests;

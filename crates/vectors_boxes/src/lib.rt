@@ -1,7 +1,0 @@
-//! Tests of the boxes: what no clause says, and whether the clauses say what T.800 does.
-#![tactic(auto)]
-
-#[cfg(test)]
-mod cases;
-#[cfg(test)]
-mod tests;

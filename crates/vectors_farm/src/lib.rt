@@ -1,7 +1,0 @@
-//! Code-blocks on worker threads, with answers from outside.
-#![tactic(auto)]
-
-#[cfg(test)]
-mod cases;
-#[cfg(test)]
-mod tests;

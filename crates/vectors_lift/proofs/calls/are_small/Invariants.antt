@@ -1,6 +1,0 @@
-use Rattle.std.proofs.Common.{◌^◌, ◌<◌, ℕ, ℤ, get_or}
-use Rattle.jk_math.specs.Signed.{IsBelow}
-use Rattle.vectors_lift.proofs.calls.are_small.Given as goal
-
-abbrev pub invariant-loop-number : goal.invariant-loop-number
-invariant-loop-number l = (k : ℕ) (d : ℤ) → k < l.number-index → IsBelow (2 ^ 29) (get_or l.numbers k d)

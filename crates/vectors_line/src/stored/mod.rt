@@ -1,0 +1,7 @@
+//! Windows of stored files, with answers from outside.
+
+mod calls;
+mod ends;
+mod forms;
+mod reads;
+mod rows;
