@@ -9,7 +9,7 @@ use crate::scale::Scale;
 use jk_commands::EncodeOptions;
 use jk_marks::Order;
 use jk_math::Fault;
-use jk_window::{cut, index, plan};
+use jk_window::{Index, View, cut, index, plan};
 use std::alloc::Global;
 
 /// One layer in an order, in precincts of 128 by 128 at each resolution.
@@ -36,8 +36,28 @@ fn in_layers(alloc: Global, layers: u32) -> Result<EncodeOptions, Fault> {
     Ok(options)
 }
 
-/// A file is written and indexed. Windows of it are planned; one in two hundred of them is cut, if it
-/// wasn't before, and decoded out of what was cut. At last the whole is decoded at a reduction.
+/// A window is planned; it is cut too, and decoded out of what was cut, where that is asked for.
+fn window(
+    alloc: Global,
+    digest: &mut Digest,
+    index: &Index,
+    file: &[u8],
+    view: View,
+    is_cut: bool,
+) -> Result<(), Fault> {
+    let planned = plan(alloc, index, view)?;
+    digest.take(planned.written());
+    digest.take(&planned.length().to_be_bytes());
+    if is_cut {
+        let window = cut(alloc, index, file, view)?;
+        digest.take(&window);
+        digest.take_image(&window_of(alloc, &window, view)?);
+    }
+    Ok(())
+}
+
+/// A file is written and indexed. Windows of it are planned, and one in two hundred of them is cut, if
+/// it wasn't before. At last the whole is decoded at a reduction.
 fn turn(
     alloc: Global,
     digest: &mut Digest,
@@ -53,14 +73,8 @@ fn turn(
     for number in 0..windows {
         let side = 32 << (number & 3);
         let view = view_in(&mut chance, size, number % 4, side, None);
-        let planned = plan(alloc, &index, view)?;
-        digest.take(planned.written());
-        digest.take(&planned.length().to_be_bytes());
-        if number % 200 == 0 && asked.first(0, view)? {
-            let window = cut(alloc, &index, &file, view)?;
-            digest.take(&window);
-            digest.take_image(&window_of(alloc, &window, view)?);
-        }
+        let is_cut = number % 200 == 0 && asked.first(0, view)?;
+        window(alloc, digest, &index, &file, view, is_cut)?;
     }
     digest.take(&decoded(alloc, &file, 2)?);
     Ok(())
