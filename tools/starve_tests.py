@@ -103,7 +103,7 @@ OTHERWISE = (
     ("vectors_files (output::a_pipe|replacing::as_it_is)", r'left: "look d/pipe;.*write d/pipe;"', DISK),
     ("vectors_files listing::one_of_each", r'left: "file.jp2 last.jp2 .*gone.jp2 NotFound', DISK),
     ("vectors_formats pnm::", PASSES, "a list isn't shortened"),
-    ("vectors_formats pnm::", "a file: Shelf", WRITER),
+    ("vectors_formats pnm::", "a (file|head|raster): Shelf", WRITER),
     # Files written and read.
     ("vectors_codec (pages|written|sizes|writers)::", PASSES, "a list isn't shortened"),
     ("vectors_codec writers::", r'error: "(the first bytes of the file|the file|another answer)"', "F1 isn't told"),
@@ -111,6 +111,7 @@ OTHERWISE = (
     # Windows and code-blocks.
     ("vectors_rows window::decoded::windows_by_the_index", PASSES, "of two answers one is looked at"),
     ("vectors_rows window::decoded::windows_by_the_index", r"left: false\n right: true", "F1 is another answer"),
+    ("vectors_rows window::walked::", r"left: \d+\n right: \d+", "the test sums a refused plan as a fault"),
     ("vectors_rows window::views::", LESS, "the test counts a refused window as none"),
     ("vectors_line stored::", PASSES, "a window that isn't known is none, as one is that is refused"),
     ("vectors_line stored::", r"left: \(?(false|None)\b", "a window that is refused isn't known"),
