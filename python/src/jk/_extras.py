@@ -43,6 +43,8 @@ class Extras:
     uuids: Tuple[Tuple[Union[bytes, uuid.UUID], bytes], ...] = ()
     #: The enumerated colour space that a file tells, as sRGB; not written.
     space: Optional[str] = None
+    #: An ICC profile of any kind (METH 3 of T.801), after the colour that JP2 readers take; these pass over it.
+    any_profile: Optional[bytes] = None
 
 
 def ratio(value: Fraction) -> Optional[Tuple[int, int, int]]:

@@ -4,12 +4,12 @@ from __future__ import annotations
 import contextlib
 import ctypes
 import os
-from dataclasses import dataclass
+from dataclasses import dataclass, replace
 from typing import Any, BinaryIO, Iterator, Optional, Sequence, Tuple, Union
 
 import numpy as np
 
-from . import _calls
+from . import _calls, _colour
 from ._extras import Extras, boxes_of, extras_of
 from .faults import BadParameters, check
 
@@ -145,7 +145,8 @@ def _handed_out(call: Any, room: int) -> bytes:
 def extras(file: File) -> Extras:
     """What a file, by its path or its bytes, keeps beside the samples. No header of the codestream is read."""
     data = _bytes_of(file)
-    return extras_of(_handed_out(lambda *out: _calls.extras(*_list(data), *out), data.size))
+    found = extras_of(_handed_out(lambda *out: _calls.extras(*_list(data), *out), data.size))
+    return replace(found, any_profile=_colour.any_profile_of(data))
 
 
 def with_extras(file: File, extras: Extras) -> bytes:
@@ -153,11 +154,16 @@ def with_extras(file: File, extras: Extras) -> bytes:
 
     A profile takes the place of what the file tells of colour, and a resolution, of capture or display, that of all that it
     tells of resolutions; all else is put behind what it has. BadParameters: a bare codestream; a profile that isn't a
-    restricted one of grey or RGB (T.800 I.5.3.3), or is for other components; more than 2^24 bytes.
+    restricted one of grey or RGB (T.800 I.5.3.3), or is for other components; more than 2^24 bytes. `any_profile` may be
+    any ICC profile for the file's components, and takes the place of the one that the file has.
     """
     data = _bytes_of(file)
     boxes = np.frombuffer(boxes_of(extras), np.uint8)
-    return _handed_out(lambda *out: _calls.with_extras(*_list(data), *_list(boxes), *out), data.size + boxes.size)
+    made = _handed_out(lambda *out: _calls.with_extras(*_list(data), *_list(boxes), *out), data.size + boxes.size)
+    if extras.any_profile is None:
+        return made
+    _colour.check_profile(extras.any_profile, _info(data, 0).components)
+    return _colour.with_any_profile(made, extras.any_profile)
 
 
 def _coding(components: int, signed: bool, parameters: dict) -> _calls.Coding:

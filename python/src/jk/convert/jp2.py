@@ -9,12 +9,15 @@ import numpy as np
 
 from .. import _beside, _extras
 from .._beside import Damaged, Kept, Resolution
+from .._colour import ANY, RESTRICTED, VENDOR, Colour, colours_of
 from ..faults import BadParameters, Fault
 from ..files import encode, extras, info, read, with_extras
 from .images import Picture, Refused
 
-#: What isn't carried of a profile that JP2 doesn't take.
-IN_EXIF = "the profile outside EXIF (JP2 takes restricted ones alone)"
+#: What isn't carried of what is no ICC profile for the image's components.
+IN_EXIF = "the profile outside EXIF (it is none for such an image)"
+#: How a profile is carried that JP2 readers don't take.
+AS_ANY = "the profile is carried as METH 3, which readers of JP2 alone pass over"
 #: The UUID of GeoJP2's box.
 GEO = bytes.fromhex("b14bf8bd083d4b43a5ae8cd7d5a6ce03")
 #: Colour spaces whose samples are grey or RGB.
@@ -34,13 +37,14 @@ def pictures(path: str) -> Iterator[Picture]:
 
 def beside(data: np.ndarray) -> Tuple[Kept, List[str]]:
     """What a file has beside its samples, and by name what of it isn't in that value."""
+    colours = colours_of(data)
+    judge_colour(colours)
     try:
         found = extras(data)
     except Fault as why:
         return Kept(), [f"what stands there: {why}"]
-    if found.space == "sYCC":
-        raise Refused("the colour space is sYCC: its samples are no RGB")
     lost = [] if found.space in SPACES else [f"colour space {found.space.partition('=')[2]}"]
+    lost += _colours(colours, found)
     kept = Kept()
     if found.exif is not None:
         try:
@@ -50,7 +54,8 @@ def beside(data: np.ndarray) -> Tuple[Kept, List[str]]:
             lost.append("EXIF that can't be read")
     if found.resolution is not None and not _is_rounded(kept.resolution, found.resolution):
         kept = replace(kept, resolution=_of_inches(found.resolution))
-    kept = replace(kept, profile=found.profile or kept.profile, xmp=found.xmp or kept.xmp, iptc=found.iptc or kept.iptc)
+    kept = replace(kept, profile=found.profile or found.any_profile or kept.profile, xmp=found.xmp or kept.xmp,
+                   iptc=found.iptc or kept.iptc)
     boxes = list(found.uuids)
     geo = next((it for it in boxes if it[0] == GEO), None)
     if geo is not None:
@@ -61,6 +66,29 @@ def beside(data: np.ndarray) -> Tuple[Kept, List[str]]:
             lost.append("GeoJP2 that can't be read")
     others = _others(replace(found, uuids=tuple(boxes)))
     return kept, list(dict.fromkeys([*lost, *others, *_boxes(data.data)]))
+
+
+def judge_colour(colours: List[Colour]) -> None:
+    """Refuses samples that are neither grey nor RGB, by the colour that counts: the first one that JP2 readers take, else
+    the first one."""
+    space = counting(colours)[0].other_space() if colours else ""
+    if space:
+        raise Refused(f"the colour space is {space}: its samples are no RGB")
+
+
+def counting(colours: List[Colour]) -> List[Colour]:
+    """Colours, the one that counts first."""
+    return sorted(colours, key=lambda it: it.method > RESTRICTED)
+
+
+def _colours(colours: List[Colour], found: _extras.Extras) -> List[str]:
+    """Colours beside the one that is carried, by name."""
+    used, (first, *others) = found.profile or found.any_profile, counting(colours) or [Colour(1, b"")]
+    lost = {ANY: "a profile of METH 3", VENDOR: "a vendor's colour (METH 4)"}
+    names = [lost.get(it.method, "further colours") for it in others if it.contents != used]
+    if first.method > ANY:
+        names.insert(0, lost.get(first.method, f"a colour of METH {first.method}"))
+    return names
 
 
 def _is_rounded(exact: Optional[Resolution], found: Tuple[Fraction, Fraction]) -> bool:
@@ -99,37 +127,38 @@ def _boxes(file: memoryview) -> List[str]:
     if file[:2] == b"\xff\x4f":
         return []
     found = []
-    for kind, contents in _extras.boxes_in(file):
-        if kind == b"jp2h" and [inner for inner, _ in _extras.boxes_in(contents)].count(b"colr") > 1:
-            found.append("further colours")
+    for kind, _ in _extras.boxes_in(file):
         if kind not in (b"jP  ", b"ftyp", b"jp2h", b"jp2c", b"xml ", b"uuid"):
             found.append(f"a box {kind.decode('latin-1').strip()}")
     return found
 
 
-def write(out: BinaryIO, picture: Picture, raw: bool, parameters: Dict[str, Any]) -> List[str]:
-    """Writes an image; what of `kept` isn't in it."""
+def write(out: BinaryIO, picture: Picture, raw: bool, parameters: Dict[str, Any]) -> Tuple[List[str], List[str]]:
+    """Writes an image; what of `kept` isn't in it, and notes."""
     samples = picture.samples
     if samples.dtype.kind == "i" and not raw:
         raise Refused("samples are signed, and JP2 holds none: a bare codestream does (--raw, or OUT.j2k)")
-    file, left = handed(encode(samples, depth=picture.depth, raw=raw, **parameters), picture, raw)
+    file, left, notes = handed(encode(samples, depth=picture.depth, raw=raw, **parameters), picture, raw)
     out.write(file)
-    return left
+    return left, notes
 
 
-def handed(file: bytes, picture: Picture, raw: bool) -> Tuple[bytes, List[str]]:
-    """A file with what stands beside the samples, and what of it isn't carried: of a bare codestream all."""
+def handed(file: bytes, picture: Picture, raw: bool) -> Tuple[bytes, List[str], List[str]]:
+    """A file with what stands beside the samples, what of it isn't carried, of a bare codestream all, and notes."""
     kept = picture.kept.that_says()
     if raw or kept == Kept():
-        return file, kept.names()
+        return file, kept.names(), []
     try:
-        return with_extras(file, extras_of(kept)), []
+        return with_extras(file, extras_of(kept)), [], []
     except BadParameters:
         if not kept.profile:
             raise
-    # EXIF holds any profile, where no reader of JP2 looks for it.
-    fields = replace(extras_of(replace(kept, profile=b"")), exif=_beside.exif_of(kept, with_profile=True))
-    return with_extras(file, fields), [IN_EXIF]
+    others = extras_of(replace(kept, profile=b""))
+    try:
+        return with_extras(file, replace(others, any_profile=kept.profile)), [], [AS_ANY]
+    except BadParameters:
+        # EXIF holds any profile, where no reader of JP2 looks for it.
+        return with_extras(file, replace(others, exif=_beside.exif_of(kept, with_profile=True))), [IN_EXIF], []
 
 
 def extras_of(kept: Kept) -> _extras.Extras:

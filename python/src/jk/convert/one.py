@@ -144,7 +144,8 @@ def written(
         raise Refused("samples are signed, and an archive holds none")
     with placing.part(out) as (path, file):
         if kind == "jp2":
-            left = jp2.write(file, picture, not out.lower().endswith(".jp2"), job.asked.parameters)
+            left, of_writing = jp2.write(file, picture, not out.lower().endswith(".jp2"), job.asked.parameters)
+            notes = notes + of_writing
         else:
             left = WRITERS[kind](file, picture)
     lost = [*picture.lost, *left]
