@@ -1,6 +1,7 @@
 """Files of other formats there and back, what is refused of them, tables, processes and archives."""
 import contextlib
 import csv
+import fcntl
 import hashlib
 import os
 import pty
@@ -693,7 +694,7 @@ def test_a_file_is_stored_before_it_has_its_name_and_that_before_its_row(tmp_pat
     monkeypatch.setattr(os, "fsync", stored)
     monkeypatch.setattr(os, "link", named)
     convert(folder / "a.tif", tmp_path / "out" / "a.jp2", tmp_path / "table.csv")
-    assert steps == ["store table.csv", f"store a.jp2.{os.getpid()}.tmp", "name a.jp2", "store out", "store table.csv"]
+    assert steps == ["store table.csv", "store .jk-tmp-0", "name a.jp2", "store out", "store table.csv"]
 
 
 def test_where_a_file_has_no_second_name(tmp_path, monkeypatch):
@@ -824,22 +825,23 @@ def test_names_of_any_kind(tmp_path):
     assert convert(tmp_path / "in", tmp_path / "out", resume=True).passed == 3
 
 
-def test_parts_of_programs_that_are_gone_are_removed(tmp_path, folder):
+def test_parts_that_nobody_holds_are_removed(tmp_path, folder):
     out = tmp_path / "out"
     out.mkdir()
-    gone = subprocess.run([sys.executable, "-c", "import os; print(os.getpid())"], capture_output=True, text=True)
-    for name in (f"a.jp2.{gone.stdout.strip()}.tmp", f"a.jp2.{os.getppid()}.tmp", "a.jp2.tmp", "a.12.tmp"):
+    for name in (".jk-tmp-0", ".jk-tmp-700", ".jk-tmp-x", "a.jk-tmp-1"):
         (out / name).write_bytes(b"")
-    convert(folder, out)
-    assert {it for it in os.listdir(out) if it.endswith(".tmp")} == {f"a.jp2.{os.getppid()}.tmp", "a.jp2.tmp", "a.12.tmp"}
+    with open(out / ".jk-tmp-3", "wb") as held:
+        fcntl.flock(held, fcntl.LOCK_EX)
+        convert(folder, out)
+    assert {it for it in os.listdir(out) if "tmp" in it} == {".jk-tmp-3", ".jk-tmp-x", "a.jk-tmp-1"}
 
 
-def test_a_part_of_an_earlier_process_with_this_number(tmp_path):
-    """It may be OUT by another name, where that process ended between two steps."""
+def test_a_part_that_is_out_by_another_name(tmp_path):
+    """A process that was killed between two steps leaves one."""
     source = tiffs.tiff(tmp_path / "a.tif", noise((9, 11)))
     converted(source, tmp_path / "a.jp2")
     data = (tmp_path / "a.jp2").read_bytes()
-    os.link(tmp_path / "a.jp2", tmp_path / f"a.jp2.{os.getpid()}.tmp")
+    os.link(tmp_path / "a.jp2", tmp_path / ".jk-tmp-0")
     converted(source, tmp_path / "a.jp2")
     assert (tmp_path / "a.jp2").read_bytes() == data and sorted(os.listdir(tmp_path)) == ["a.jp2", "a.tif"]
 

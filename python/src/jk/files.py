@@ -1,16 +1,16 @@
 """Files as arrays, and arrays as files."""
 from __future__ import annotations
 
-import contextlib
 import ctypes
 import os
 from dataclasses import dataclass, replace
-from typing import Any, BinaryIO, Iterator, Optional, Sequence, Tuple, Union
+from typing import Any, Optional, Sequence, Tuple, Union
 
 import numpy as np
 
 from . import _calls, _colour
 from ._extras import Extras, boxes_of, extras_of
+from ._placing import placed
 from .faults import BadParameters, check
 
 #: A file by its path, or its bytes.
@@ -230,24 +230,8 @@ def encode(array: np.ndarray, *, extras: Optional[Extras] = None, **parameters: 
 def write(
     path: Union[str, "os.PathLike[str]"], array: np.ndarray, *, extras: Optional[Extras] = None, **parameters: Any
 ) -> None:
-    """Writes the file of an array, with the parameters of `encode`: beside its place, and then renamed, so that a file
-    that stands there is whole."""
+    """Writes the file of an array, with the parameters of `encode`. A file that is there is replaced as a whole and keeps
+    its mode; a link is followed, and a pipe or a device is written as it is."""
     file = encode(array, extras=extras, **parameters)
     with placed(path) as out:
         out.write(file)
-
-
-@contextlib.contextmanager
-def placed(path: Union[str, "os.PathLike[str]"]) -> Iterator[BinaryIO]:
-    """A file to write to, beside its place; it is renamed when all went well, and else removed."""
-    part = f"{os.fspath(path)}.{os.getpid()}.tmp"
-    try:
-        with open(part, "xb") as out:
-            yield out
-            out.flush()
-            os.fsync(out.fileno())
-        os.replace(part, path)
-    except BaseException:
-        if os.path.exists(part):
-            os.unlink(part)
-        raise

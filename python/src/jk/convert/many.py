@@ -6,10 +6,10 @@ import os
 from dataclasses import dataclass, field
 from typing import Any, Callable, Dict, Iterator, List, Optional, Sequence, Set, Tuple, Union
 
+from .._placing import remove_parts
 from .images import ENDINGS
 from .into import name_for
 from .one import Asked, Done, Job
-from .placing import remove_parts
 from .rows import NoTable, Table
 from .workers import Stop, each_done
 

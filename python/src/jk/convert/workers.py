@@ -10,8 +10,8 @@ import sys
 import threading
 from typing import Any, Dict, Iterator, List, Optional
 
+from .._placing import remove_parts
 from .one import Done, Job, done
-from .placing import remove_parts
 
 #: So many files a process converts before another one takes its place, since libraries may lose memory.
 FILES = 100

@@ -10,9 +10,9 @@ import numpy as np
 from pydicom.dataset import Dataset
 from pydicom.uid import ExplicitVRLittleEndian, JPEG2000Lossless
 
+from .._placing import placed
 from ..faults import Fault
 from ..files import encode as codestream_of
-from ..files import placed
 from .elements import OF_FRAGMENTS, write_elements, write_header
 from .fragments import DELIMITER, ITEM
 from .pixels import Note, Pixels, Refused, judge_high_bit
