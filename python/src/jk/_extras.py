@@ -2,9 +2,12 @@
 them: boxes of T.800 Annex I, one after another."""
 from __future__ import annotations
 
+import math
+import numbers
 import struct
 import uuid
 from dataclasses import dataclass
+from decimal import Decimal
 from fractions import Fraction
 from typing import Any, Iterator, List, Optional, Sequence, Tuple, Union
 
@@ -23,9 +26,33 @@ MOST = 65535
 METRE = Fraction(5000, 127)
 
 
+def _blob(name: str, given: object) -> bytes:
+    """Bytes that were given; numbers and text are none."""
+    if not isinstance(given, (bytes, bytearray, memoryview)):
+        raise TypeError(f"{name} is bytes, and not {type(given).__name__}")
+    return bytes(given)
+
+
+def _blobs(name: str, given: object) -> Tuple[bytes, ...]:
+    """A sequence of bytes; bytes alone aren't one."""
+    if not isinstance(given, (list, tuple)):
+        raise TypeError(f"{name} is a sequence of bytes, and not {type(given).__name__}")
+    return tuple(_blob(f"each of {name}", it) for it in given)
+
+
+def _uuid(given: object) -> Tuple[bytes, bytes]:
+    """A UUID and what follows it in its box."""
+    if not isinstance(given, (list, tuple)) or len(given) != 2:
+        raise TypeError("each of uuids is a pair of a UUID and bytes")
+    name = given[0].bytes if isinstance(given[0], uuid.UUID) else _blob("a UUID", given[0])
+    if len(name) != 16:
+        raise ValueError(f"a UUID has 16 bytes, and not {len(name)}")
+    return name, _blob("what follows a UUID", given[1])
+
+
 @dataclass(frozen=True)
 class Extras:
-    """What a JP2 file keeps beside the samples, or is to keep."""
+    """What a JP2 file keeps beside the samples, or is to keep. TypeError: a field of another type."""
 
     #: An ICC profile; a restricted one of grey or RGB, where it is given to a file.
     profile: Optional[bytes] = None
@@ -45,6 +72,38 @@ class Extras:
     space: Optional[str] = None
     #: An ICC profile of any kind (METH 3 of T.801), after the colour that JP2 readers take; these pass over it.
     any_profile: Optional[bytes] = None
+
+    def __post_init__(self) -> None:
+        for name in ("profile", "xmp", "exif", "iptc", "any_profile"):
+            if getattr(self, name) is not None:
+                object.__setattr__(self, name, _blob(name, getattr(self, name)))
+        object.__setattr__(self, "xml", _blobs("xml", self.xml))
+        if not isinstance(self.uuids, (list, tuple)):
+            raise TypeError(f"uuids is a sequence of pairs, and not {type(self.uuids).__name__}")
+        object.__setattr__(self, "uuids", tuple(_uuid(it) for it in self.uuids))
+        for name in ("resolution", "display"):
+            object.__setattr__(self, name, _resolution(name, getattr(self, name)))
+
+
+def _resolution(name: str, given: Any) -> Union[None, Number, Tuple[Number, ...]]:
+    """A resolution with numbers of Python's own, numpy's among them."""
+    if given is None:
+        return None
+    if isinstance(given, (str, bytes)) or not hasattr(given, "__iter__"):
+        return _number(name, given)
+    return tuple(_number(name, it) for it in given)
+
+
+def _number(name: str, given: Any) -> Number:
+    if isinstance(given, (str, Fraction)):
+        return given
+    if isinstance(given, numbers.Integral) and not isinstance(given, bool):
+        return int(given)
+    if isinstance(given, Decimal):
+        return Fraction(given)
+    if isinstance(given, numbers.Real) and not isinstance(given, bool):
+        return float(given)
+    raise TypeError(f"{name} is a number of samples by the inch, or a pair of them, and not {type(given).__name__}")
 
 
 def ratio(value: Fraction) -> Optional[Tuple[int, int, int]]:
@@ -75,11 +134,13 @@ def nearest(value: Fraction) -> Tuple[int, int, int]:
 
 def _grid(told: Union[Number, Sequence[Number]]) -> bytes:
     """A resolution as its box holds it: the samples of a column come first."""
-    pair = (told, told) if isinstance(told, (int, float, Fraction, str)) else tuple(told)
+    pair = told if isinstance(told, tuple) else (told, told)
     if len(pair) != 2:
         raise ValueError("a resolution is a number, or one of a row and one of a column")
     ratios = []
     for number in (pair[1], pair[0]):
+        if isinstance(number, float) and not math.isfinite(number):
+            raise ValueError(f"{number} samples by the inch")
         inches = Fraction(number)
         found = ratio(inches * METRE) if inches > 0 else None
         if found is None:
@@ -108,15 +169,10 @@ def boxes_of(extras: Extras) -> bytes:
     if exif is not None and exif.startswith(b"Exif\0\0"):
         exif = exif[6:]
     others = [(XMP, extras.xmp), (EXIF, exif), (IPTC, extras.iptc), *extras.uuids]
-    made = [box(b"colr", b"\2\0\0" + bytes(extras.profile))] if extras.profile is not None else []
+    made = [box(b"colr", b"\2\0\0" + extras.profile)] if extras.profile is not None else []
     made.append(grids(*told))
-    made += [box(b"xml ", bytes(text)) for text in extras.xml]
-    for name, contents in others:
-        if contents is not None:
-            name = name.bytes if isinstance(name, uuid.UUID) else bytes(name)
-            if len(name) != 16:
-                raise ValueError(f"a UUID has 16 bytes, and not {len(name)}")
-            made.append(box(b"uuid", name + bytes(contents)))
+    made += [box(b"xml ", text) for text in extras.xml]
+    made += [box(b"uuid", bytes(name) + contents) for name, contents in others if contents is not None]
     return b"".join(made)
 
 

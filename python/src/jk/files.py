@@ -2,9 +2,10 @@
 from __future__ import annotations
 
 import ctypes
+import operator
 import os
 from dataclasses import dataclass, replace
-from typing import Any, Optional, Sequence, Tuple, Union
+from typing import Any, Optional, SupportsIndex, Tuple, Union
 
 import numpy as np
 
@@ -68,9 +69,9 @@ def _list(array: np.ndarray) -> Tuple[int, int]:
     return array.ctypes.data, array.size
 
 
-def _word(number: int) -> int:
-    """A number that the library takes as it is."""
-    number = int(number)
+def _word(number: SupportsIndex) -> int:
+    """A number that the library takes as it is. TypeError: it isn't a whole number, as 2.7 or "1"."""
+    number = operator.index(number)
     if not 0 <= number < 1 << 32:
         raise ValueError(f"{number} isn't a number from 0 to 2^32 - 1")
     return number
@@ -90,11 +91,18 @@ def _info(data: np.ndarray, reduce: int) -> Info:
     )
 
 
-def _room(told: Info, shape: Tuple[int, ...], out: Optional[np.ndarray]) -> np.ndarray:
+def _room(told: Info, shape: Tuple[int, ...], out: Optional[np.ndarray], data: np.ndarray) -> np.ndarray:
+    """The array that samples are written to, which may not be where the file lies."""
     if out is None:
         return np.empty(shape, told.dtype)
+    if not isinstance(out, np.ndarray) or isinstance(out, np.ma.MaskedArray):
+        raise TypeError(f"out is a plain array, and not {type(out).__name__}")
     if out.shape != shape or out.dtype != told.dtype or not out.flags.c_contiguous or not out.flags.writeable:
         raise ValueError(f"out isn't a writable array in C order, of shape {shape} and type {told.dtype}")
+    if not out.flags.aligned:
+        raise ValueError("out begins at an odd address, where no uint16 and no int16 may lie")
+    if np.may_share_memory(out, data):
+        raise ValueError("out lies where the bytes of the file do")
     return out
 
 
@@ -111,13 +119,13 @@ def read(
     data = _bytes_of(file)
     told = _info(data, reduce)
     if window is None:
-        array = _room(told, told.shape, out)
+        array = _room(told, told.shape, out, data)
         check(_calls.decode[array.dtype.name](*_list(data), _word(reduce), *_list(array)))
         return array
     x, y, width, height = (_word(number) for number in window)
     across = max(0, min(x + width, told.width) - x)
     down = max(0, min(y + height, told.height) - y)
-    array = _room(told, _shape(down, across, told.components), out)
+    array = _room(told, _shape(down, across, told.components), out, data)
     check(_calls.decode_window[array.dtype.name](*_list(data), _word(reduce), x, y, width, height, *_list(array)))
     return array
 
@@ -175,10 +183,11 @@ def _coding(components: int, signed: bool, parameters: dict) -> _calls.Coding:
     if order not in ORDERS:
         raise ValueError(f"{order!r} isn't one of {', '.join(ORDERS)}")
     coding.order = ORDERS.index(order)
-    coding.tile_width, coding.tile_height = map(_word, taken("tile", None) or (0, 0))
+    tile = taken("tile", None)
+    coding.tile_width, coding.tile_height = (0, 0) if tile is None else map(_word, tile)
     coding.block_width, coding.block_height = map(_word, taken("block", (6, 6)))
-    precincts: Sequence[Tuple[int, int]] = taken("precincts", ())
-    if len(precincts) > 8 or not all(0 <= e < 16 for pair in precincts for e in pair):
+    precincts = [tuple(map(_word, pair)) for pair in taken("precincts", ())]
+    if len(precincts) > 8 or not all(len(pair) == 2 and max(pair) < 16 for pair in precincts):
         raise ValueError("precincts aren't at most 8 pairs of exponents from 0 to 15")
     coding.precinct_count = len(precincts)
     for place, (wide, high) in enumerate(precincts):
@@ -204,11 +213,13 @@ def encode(array: np.ndarray, *, extras: Optional[Extras] = None, **parameters: 
     `causal` and `segments` for the styles of code-blocks, and `raw` for a bare codestream (with 2 and 4 components,
     and signed samples, which JP2 doesn't hold).
     """
+    if isinstance(array, np.ma.MaskedArray):
+        raise TypeError("a masked array: a file holds no mask, so give array.filled(..), or array.data")
     image = np.asarray(array)
     if not image.dtype.isnative or image.dtype.name not in _calls.encode or image.ndim not in (2, 3):
         kinds = ", ".join(_calls.encode)
         raise TypeError(f"not an image of one of {kinds} in this machine's order: {image.dtype} with {image.ndim} axes")
-    image = np.ascontiguousarray(image)
+    image = np.require(image, requirements=["C", "A"])
     components = 1 if image.ndim == 2 else image.shape[2]
     depth = parameters.pop("depth", None) or 8 * image.dtype.itemsize
     x0, y0 = parameters.pop("place", (0, 0))
