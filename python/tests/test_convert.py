@@ -1046,3 +1046,28 @@ def test_wrong_command_lines_have_the_status_2(tmp_path, words, word):
 def test_unknown_parameters_are_a_type_error(tmp_path):
     with pytest.raises(TypeError, match="depth"):
         convert(tmp_path / "a.tif", tmp_path / "a.jp2", depth=8)
+
+
+# Limits, pipes, and what is told of tags and text.
+
+def test_an_image_past_the_limits_is_refused_before_it_is_inflated(tmp_path):
+    packed = zlib.compress(bytes(1 << 26), 1)
+    head = struct.pack(">LLBBBBB", 20000, 20000, 8, 0, 0, 0, 0)
+    (tmp_path / "a.png").write_bytes(png.SIGNATURE + b"".join(tiffs.chunk(*it) for it in ((b"IHDR", head), (b"IDAT", packed))))
+    (tmp_path / "a.pgm").write_bytes(b"P5 20000 20000 255\n1")
+    for ending in ("png", "pgm"):
+        refused(tmp_path / f"a.{ending}", tmp_path / "a.jp2", "20000 by 20000 pixels, and jk takes 2^28 at most")
+    bomb = zlib.compress(bytes(300 << 20), 1)
+    tiffs.tiff(tmp_path / "b.tif", noise((9, 11)), compression=8, parts=[bomb])
+    limit = lambda: resource.setrlimit(resource.RLIMIT_AS, (400 << 20, 400 << 20))  # noqa: E731
+    told = run(tmp_path / "b.tif", tmp_path / "b.jp2", preexec_fn=limit, env={**os.environ, "OPENBLAS_NUM_THREADS": "1"})
+    assert told.returncode == 1 and "inflates to more than its 99 bytes" in told.stderr
+
+
+@pytest.mark.parametrize("workers", [1, 2])
+def test_a_pipe_in_a_folder_is_skipped_and_named(tmp_path, folder, workers):
+    os.mkfifo(folder / "pipe.tif")
+    counts = convert(folder, tmp_path / "out", workers=workers)
+    assert counts.converted == 3 and counts.refused == [("pipe.tif", "this is a pipe (FIFO), and no file")]
+    told = run(folder / "pipe.tif", tmp_path / "a.jp2", timeout=60)
+    assert told.returncode == 1 and "pipe.tif: this is a pipe" in told.stderr

@@ -55,16 +55,16 @@ def parts_of(samples, order, tile, rows, planar, compression, predictor):
 
 #: How samples lie, where it isn't told.
 USUAL = {"order": "<", "big": False, "tile": None, "rows": 16, "planar": False, "compression": 1, "predictor": 1,
-         "fields": {}}
+         "fields": {}, "parts": None}
 
 
 def page(samples, place, **how):
     """The text of an image at a place: its samples, where its directory begins, and what that is by where the next one
     begins. A field that is None is left out."""
-    order, big, tile, rows, planar, compression, predictor, fields = {**USUAL, **how}.values()
+    order, big, tile, rows, planar, compression, predictor, fields, parts = {**USUAL, **how}.values()
     whole = samples[:, :, np.newaxis] if samples.ndim == 2 else samples
     height, width, components = whole.shape
-    parts = list(parts_of(whole, order, tile, rows, planar, compression, predictor))
+    parts = parts or list(parts_of(whole, order, tile, rows, planar, compression, predictor))
     places = [place + sum(map(len, parts[:number])) for number in range(len(parts))]
     told = {
         256: (4, [width]), 257: (4, [height]), 258: (3, [8 * whole.dtype.itemsize] * components),

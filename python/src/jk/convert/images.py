@@ -3,6 +3,7 @@ from __future__ import annotations
 
 import contextlib
 import os
+import stat
 from dataclasses import dataclass
 from typing import Iterator, Optional, Tuple
 
@@ -15,6 +16,8 @@ BEGINNINGS = (
     ("tiff", b"II*\0"), ("tiff", b"MM\0*"), ("tiff", b"II+\0"), ("tiff", b"MM\0+"), ("png", b"\x89PNG\r\n\x1a\n"),
     ("pnm", b"P5"), ("pnm", b"P6"), ("jp2", b"\0\0\0\x0cjP  \r\n\x87\n"), ("jp2", b"\xff\x4f\xff\x51"),
 )
+#: So many pixels an image has at most.
+MOST_PIXELS = 1 << 28
 #: The endings of files that are looked for in a folder, and what they are.
 ENDINGS = {
     ".tif": "tiff", ".tiff": "tiff", ".png": "png", ".pgm": "pnm", ".ppm": "pnm", ".pnm": "pnm", ".jp2": "jp2",
@@ -54,6 +57,21 @@ def kind_of(path: str) -> str:
     if not head:
         raise Refused("the file is empty")
     raise Refused("this is no TIFF, PNG, PGM, PPM or JPEG 2000 file, by its first bytes")
+
+
+def judge_size(width: int, height: int) -> None:
+    """Refuses an image past jk's limit, before its samples are read."""
+    if width * height > MOST_PIXELS:
+        raise Refused(f"it has {width} by {height} pixels, and jk takes 2^28 at most")
+
+
+def judge_file(path: str) -> None:
+    """Refuses what is no regular file, as a pipe, on which a read would wait."""
+    mode = os.stat(path).st_mode
+    if not stat.S_ISREG(mode):
+        kinds = {stat.S_IFIFO: "a pipe (FIFO)", stat.S_IFCHR: "a device", stat.S_IFBLK: "a device",
+                 stat.S_IFSOCK: "a socket", stat.S_IFDIR: "a folder"}
+        raise Refused(f"this is {kinds.get(stat.S_IFMT(mode), 'something else')}, and no file")
 
 
 def type_of(depth: int, signed: bool = False) -> np.dtype:

@@ -12,7 +12,7 @@ import numpy as np
 from ..faults import Fault
 from . import jp2, png, pnm, tiff, tiff_writing
 from .again import agreed
-from .images import Picture, Refused, kind_of, unchanged
+from .images import Picture, Refused, judge_file, kind_of, unchanged
 from .into import Adding
 from .placing import Placing, digest_of
 from .rows import Row
@@ -76,6 +76,7 @@ class Done:
 def done(job: Job) -> Done:
     """Converts a file, or tells why it isn't."""
     try:
+        judge_file(job.source)
         if job.rows and stands(job):
             return Done(job, job.rows, is_passed=True)
         return Done(job, tuple(converted(job)))

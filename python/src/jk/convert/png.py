@@ -8,7 +8,7 @@ from typing import BinaryIO, Dict, Iterator, List, Tuple
 import numpy as np
 
 from .._beside import Damaged, Kept, Resolution, exif_of, kept_of_exif
-from .images import Picture, Refused, type_of
+from .images import Picture, Refused, judge_size, type_of
 from .png_filters import filtered, unfiltered
 
 SIGNATURE = b"\x89PNG\r\n\x1a\n"
@@ -102,6 +102,7 @@ def _judge(width: int, height: int, depth: int, colour: int, methods: List[int])
                       "RGB, with the same colours")
     if depth not in DEPTHS.get(colour, ()) or methods[:2] != [0, 0] or methods[2] > 1 or not width or not height:
         raise Refused("IHDR has a value that PNG doesn't allow")
+    judge_size(width, height)
 
 
 def _row(across: int, depth: int, colour: int) -> int:

@@ -7,7 +7,7 @@ from typing import BinaryIO, Iterator, List
 
 import numpy as np
 
-from .images import Picture, Refused
+from .images import Picture, Refused, judge_size
 
 GAP = rb"(?:[ \t\n\v\f\r]|#[^\r\n]*[\r\n])+"
 HEAD = re.compile(rb"P([56])" + (GAP + rb"(\d+)") * 3 + rb"[ \t\n\v\f\r]")
@@ -28,6 +28,7 @@ def pictures(path: str) -> Iterator[Picture]:
         raise Refused(f"the greatest value is {greatest}, and not one less than a power of two up to 65536")
     if not width or not height:
         raise Refused("the image has no sample")
+    judge_size(width, height)
     kind = np.dtype(np.uint8 if depth <= 8 else ">u2")
     wanted, there = width * height * components * kind.itemsize, os.path.getsize(path) - head.end()
     if wanted != there:

@@ -16,7 +16,7 @@ import numpy as np
 import tifffile
 
 from .._beside import LAYOUT, Damaged, Directory, Stream, kept_of
-from .images import Picture, Refused, type_of
+from .images import Picture, Refused, judge_size, type_of
 
 WIDTH, HEIGHT, BITS, COMPRESSION, PHOTOMETRIC, SAMPLES, ROWS = 256, 257, 258, 259, 262, 277, 278
 PLANAR, PREDICTOR, TILE_WIDTH, TILE_HEIGHT, EXTRA, FORMAT, SUBFILE = 284, 317, 322, 323, 338, 339, 254
@@ -35,6 +35,8 @@ OTHERS = {
     5: OF_COLOUR.format("CMYK"), 6: OF_COLOUR.format("YCbCr"),
     **dict.fromkeys((8, 9, 10), OF_COLOUR.format("Lab")),
 }
+#: So many bytes a strip or tile may have too many.
+SPARE = 1 << 16
 #: What tiffcp says of directories, which are read here.
 HARMLESS = re.compile(r"TIFF(ReadDirectory|FetchNormalTag|FetchDirectory\w*|ReadCustomDirectory): Warning")
 
@@ -113,8 +115,7 @@ def _judge(form: Form, sample_format: int, depth: int, predictor: int) -> None:
                       "depend on the decoder")
     if 0 in (form.width, form.height, *form.part) or depth != 1 or predictor not in (1, 2):
         raise Refused("it has no sample, or a depth of its own, or an unknown predictor")
-    if form.width * form.height > 1 << 28:
-        raise Refused(f"it has {form.width} by {form.height} pixels, and jk takes 2^28 at most")
+    judge_size(form.width, form.height)
 
 
 def judge_parts(path: str, form: Form) -> None:
@@ -136,16 +137,23 @@ def judge_parts(path: str, form: Form) -> None:
                 raise Refused(f"strip or tile {number + 1} isn't in the file")
             if form.compression in DEFLATE:
                 file.seek(place)
-                size = _inflated_size(file.read(size))
+                size = _inflated_size(file.read(size), row * rows)
             if form.compression in PLAIN + DEFLATE and size < row * rows:
                 raise Refused(f"strip or tile {number + 1} has {size} bytes of {row * rows}")
 
 
-def _inflated_size(data: bytes) -> int:
+def _inflated_size(data: bytes, most: int) -> int:
+    """So many bytes data inflate to; more than a part may have are refused, before they are inflated."""
+    inflating = zlib.decompressobj()
     try:
-        return len(zlib.decompress(data))
+        size = len(inflating.decompress(data, most + SPARE))
     except zlib.error as error:
         raise Refused(f"samples aren't deflated as they should be: {error}") from error
+    if inflating.unconsumed_tail:
+        raise Refused(f"a strip or tile inflates to more than its {most} bytes")
+    if not inflating.eof:
+        raise Refused("samples aren't deflated as they should be: a strip or tile is cut off")
+    return size
 
 
 def directories_of(path: str) -> List[Tuple[int, Form, Picture]]:
