@@ -1071,3 +1071,69 @@ def test_a_pipe_in_a_folder_is_skipped_and_named(tmp_path, folder, workers):
     assert counts.converted == 3 and counts.refused == [("pipe.tif", "this is a pipe (FIFO), and no file")]
     told = run(folder / "pipe.tif", tmp_path / "a.jp2", timeout=60)
     assert told.returncode == 1 and "pipe.tif: this is a pipe" in told.stderr
+
+
+@pytest.mark.parametrize("fields, name", [
+    ({254: (4, [2])}, "SubfileType"), ({255: (3, [3])}, "SubfileType"), ({297: (3, [1, 3])}, "PageNumber"),
+    ({280: (3, [3])}, "MinSampleValue"), ({281: (3, [200])}, "MaxSampleValue"), ({340: (3, [1])}, "SMinSampleValue"),
+    ({341: (3, [254])}, "SMaxSampleValue"), ({282: (5, [(72, 1)]), 283: (5, [(72, 1)]), 296: (3, [1])}, "resolution without a unit"),
+])
+def test_tags_that_say_something_are_told(tmp_path, fields, name):
+    source = tiffs.tiff(tmp_path / "a.tif", noise((9, 11)), fields=fields)
+    refused(source, tmp_path / "a.jp2", f"not carried: {name}", strict=True)
+    assert converted(source, tmp_path / "a.jp2")[0].notes.endswith(f"not carried: {name}")
+
+
+def test_tags_that_say_nothing_are_not_told(tmp_path):
+    fields = {254: (4, [0]), 255: (3, [1]), 280: (3, [0]), 281: (3, [255]), 340: (3, [0]), 341: (3, [255]),
+              282: (5, [(1, 1)]), 283: (5, [(1, 1)]), 296: (3, [1])}
+    converted(tiffs.tiff(tmp_path / "a.tif", noise((9, 11)), fields=fields), tmp_path / "a.jp2", strict=True)
+    row, = converted(tiffs.png(tmp_path / "b.png", noise((9, 11)), chunks=[(b"pHYs", struct.pack(">LLB", 2835, 2835, 0))]),
+                     tmp_path / "b.jp2")
+    assert row.notes.endswith("not carried: resolution without a unit")
+
+
+def raw(kind, data):
+    """A text as ImageMagick writes it."""
+    digits = data.hex().encode()
+    return b"Raw profile type " + kind + b"\0\0" + zlib.compress(
+        b"\n" + kind + b"\n" + b"%8d\n" % len(data) + b"\n".join(digits[at : at + 72] for at in range(0, len(digits), 72)) + b"\n")
+
+
+XMP_KEY, RESOURCES = b"XML:com.adobe.xmp", b"8BIM\4\4\0\0\0\0\0\6\x1c\2\5\0\1x"
+TURNED = _beside.exif_of(_beside.Kept(orientation=6))
+
+
+@pytest.mark.parametrize("kind, text, carried", [
+    (b"zTXt", XMP_KEY + b"\0\0" + zlib.compress(b"<x/>"), "XMP"), (b"tEXt", XMP_KEY + b"\0<x/>", "XMP"),
+    (b"iTXt", XMP_KEY + b"\0\1\0\0\0" + zlib.compress(b"<x/>"), "XMP"), (b"iTXt", XMP_KEY + b"\0\0\0en\0\0<x/>", "XMP"),
+    (b"zTXt", raw(b"xmp", b"<x/>"), "XMP"), (b"zTXt", raw(b"APP1", b"http://ns.adobe.com/xap/1.0/\0<x/>"), "XMP"),
+    (b"zTXt", raw(b"exif", b"Exif\0\0" + TURNED), "orientation"), (b"zTXt", raw(b"APP1", b"Exif\0\0" + TURNED), "orientation"),
+    (b"zTXt", raw(b"iptc", RESOURCES), "IPTC"), (b"zTXt", raw(b"8bim", b"\x1c\2\5\0\1x"), "IPTC"),
+    (b"zTXt", raw(b"icc", icc(b"GRAY")), "profile"),
+])
+def test_text_of_a_png_that_is_carried(tmp_path, kind, text, carried):
+    source = tiffs.png(tmp_path / "a.png", noise((9, 11)), chunks=[(kind, text)])
+    row, = converted(source, tmp_path / "a.jp2", strict=True)
+    assert row.carried == carried
+    picture, = jp2.pictures(str(tmp_path / "a.jp2"))
+    assert picture.kept.xmp == b"<x/>" * (carried == "XMP") and picture.kept.iptc == b"\x1c\2\5\0\1x" * (carried == "IPTC")
+    assert picture.kept.profile == (icc(b"GRAY") if carried == "profile" else b"")
+    assert picture.kept.orientation == (6 if carried == "orientation" else None)
+
+
+@pytest.mark.parametrize("kind, text", [
+    (b"zTXt", raw(b"iptc", RESOURCES + b"8BIM\4\5\0\0\0\0\0\0")), (b"zTXt", raw(b"xmp", b"<x/>")[:-6]), (b"zTXt", raw(b"other", b"1")),
+    (b"tEXt", b"Raw profile type xmp\0\nxmp\n5\n3c3c"), (b"zTXt", XMP_KEY + b"\0\1<x/>"), (b"iTXt", XMP_KEY), (b"iTXt", XMP_KEY + b"\0\0"),
+    (b"tEXt", b"Raw profile type exif\0\nexif\n2\n3c3c"),
+])
+def test_text_of_a_png_that_is_told(tmp_path, kind, text):
+    source = tiffs.png(tmp_path / "a.png", noise((9, 11)), chunks=[(kind, text)])
+    name = f"{kind.decode()} {text.partition(bytes(1))[0].decode()}"
+    refused(source, tmp_path / "a.jp2", f"not carried: {name}", strict=True)
+
+
+def test_the_second_text_is_told(tmp_path):
+    chunks = [(b"tEXt", XMP_KEY + b"\0<x/>"), (b"zTXt", raw(b"xmp", b"<y/>"))]
+    row, = converted(tiffs.png(tmp_path / "a.png", noise((9, 11)), chunks=chunks), tmp_path / "a.jp2")
+    assert row.notes.endswith("not carried: zTXt Raw profile type xmp") and row.carried == "XMP"

@@ -27,6 +27,9 @@ UNITS = {1: "none", 2: "inch", 3: "centimetre"}
 #: Tags that tell how samples lie in the file, or what is known of it otherwise.
 LAYOUT = {254, 255, 256, 257, 258, 259, 262, 263, 266, 273, 277, 278, 279, 280, 281, 284, 292, 293, 297, 317, 322, 323,
           324, 325, 326, 327, 328, 338, 339, 340, 341}
+#: Tags of these that may say something.
+SAYING = {254: "SubfileType", 255: "SubfileType", 280: "MinSampleValue", 281: "MaxSampleValue", 297: "PageNumber",
+          340: "SMinSampleValue", 341: "SMaxSampleValue"}
 #: What other tags are called.
 NAMES = {290: "grey response curve", 291: "grey response curve", 301: "transfer function", 318: "white point",
          319: "primary chromaticities", 330: "images inside the image", 34377: "Photoshop's resources",
@@ -159,6 +162,10 @@ class Resolution:
         """Whether it is that of any image."""
         return self.unit == "none" and Fraction(*self.across) == Fraction(*self.down)
 
+    def is_without_unit(self) -> bool:
+        """Whether it has numbers of no unit that aren't carried: of pixels as wide as high, and not 1 by 1."""
+        return self.says_nothing() and Fraction(*self.across) != 1
+
     def value(self) -> Tuple[Fraction, ...]:
         """What it tells, whatever its unit: samples for each metre, or how wide a pixel is beside its height."""
         if self.unit == "none":
@@ -220,12 +227,30 @@ def kept_of(stream: Stream, directory: Directory) -> Tuple[Kept, List[str]]:
     geo = _geo(stream, directory)
     known = {*LAYOUT, *described, *dict(geo), *(tag for tag in whole if whole[tag]), ACROSS, DOWN, UNIT, ORIENTATION}
     lost += [NAMES.get(tag, f"tag {tag}") for tag in directory if tag not in known]
+    lost += _of_layout(stream, directory)
+    if resolution is not None and resolution.is_without_unit():
+        lost.append("resolution without a unit")
     kept = Kept(
         profile=whole.get(PROFILE, b""), resolution=resolution, xmp=whole.get(XMP, b""),
         iptc=_iptc(whole.get(IPTC, b"")), exif=_stream(stream.order, described),
         orientation=orientation if orientation in range(1, 9) else None, white_is_zero=white == 0, geo=geo,
     )
     return kept, list(dict.fromkeys(lost))
+
+
+def _of_layout(stream: Stream, directory: Directory) -> List[str]:
+    """Tags of the layout that say something, by name: kinds of subfiles, the page's number, least and greatest samples."""
+    bits = _one(stream, directory.get(258)) or 1
+    usual = {254: (0, 1), 255: (1,), 280: (0,), 281: ((1 << bits) - 1,), 340: (0,), 341: ((1 << bits) - 1,)}
+    found = []
+    for tag, name in SAYING.items():
+        field = directory.get(tag)
+        if field is None or field.data is None:
+            continue
+        values = stream.numbers(field) if field.kind in (SHORT, LONG) else []
+        if not values or not set(values) <= set(usual.get(tag, ())):
+            found.append(name)
+    return found
 
 
 def _iptc(data: bytes) -> bytes:

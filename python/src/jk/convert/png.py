@@ -10,6 +10,7 @@ import numpy as np
 from .._beside import Damaged, Kept, Resolution, exif_of, kept_of_exif
 from .images import Picture, Refused, judge_size, type_of
 from .png_filters import filtered, unfiltered
+from .png_text import carried, inflated
 
 SIGNATURE = b"\x89PNG\r\n\x1a\n"
 #: Samples of a pixel, by the colour type.
@@ -18,8 +19,7 @@ DEPTHS = {0: (1, 2, 4, 8, 16), 2: (8, 16), 4: (8, 16), 6: (8, 16)}
 #: The passes of an interlaced image: first column and row, and the steps.
 PASSES = ((0, 0, 8, 8), (4, 0, 8, 8), (0, 4, 4, 8), (2, 0, 4, 4), (0, 2, 2, 4), (1, 0, 2, 2), (0, 1, 1, 2))
 XMP = b"XML:com.adobe.xmp"
-#: The longest profile and text.
-MOST = 1 << 24
+TEXTS = (b"tEXt", b"zTXt", b"iTXt")
 #: So many bytes of samples are filtered at a time.
 BAND = 1 << 20
 
@@ -146,21 +146,29 @@ def _unpacked(rows: np.ndarray, across: int, depth: int) -> np.ndarray:
 def _kept(others: List[Tuple[bytes, bytes]]) -> Tuple[Kept, List[str]]:
     """What chunks beside the samples tell."""
     told: Dict[str, object] = {}
+    of_text: Dict[str, bytes] = {}
     lost: List[str] = []
     for kind, data in others:
         if kind == b"iCCP":
-            told["profile"] = _inflated(data.partition(b"\0")[2][1:])
+            told["profile"] = inflated(data.partition(b"\0")[2][1:], "profile")
         elif kind == b"pHYs" and len(data) == 9 and 0 not in struct.unpack(">LL", data[:8]):
             across, down, unit = struct.unpack(">LLB", data)
             told["resolution"] = Resolution((across, 1), (down, 1), "metre" if unit == 1 else "none")
-        elif kind == b"iTXt" and data.startswith(XMP + b"\0\0\0"):
-            told["xmp"] = data[len(XMP) + 3 :].split(b"\0", 2)[2]
         elif kind == b"eXIf":
             told["exif"] = data
         else:
-            lost.append(_name(kind, data))
+            found = carried(kind, data) if kind in TEXTS else {}
+            if not found or set(found) & set(of_text):
+                lost.append(_name(kind, data))
+            else:
+                of_text.update(found)
+    for name, value in of_text.items():
+        if told.setdefault(name, value) != value:
+            lost.append(f"a second {name} in text")
     exif = told.pop("exif", b"")
     kept = Kept(**told)  # type: ignore[arg-type]
+    if kept.resolution and kept.resolution.is_without_unit():
+        lost.append("resolution without a unit")
     if exif:
         kept, of_exif = _with_exif(kept, exif)  # type: ignore[arg-type]
         lost += of_exif
@@ -169,20 +177,9 @@ def _kept(others: List[Tuple[bytes, bytes]]) -> Tuple[Kept, List[str]]:
 
 def _name(kind: bytes, data: bytes) -> str:
     name = kind.decode("latin-1")
-    if kind in (b"tEXt", b"zTXt", b"iTXt"):
+    if kind in TEXTS:
         return f"{name} {data.partition(bytes(1))[0].decode('latin-1')}"
     return name
-
-
-def _inflated(data: bytes) -> bytes:
-    inflating = zlib.decompressobj()
-    try:
-        plain = inflating.decompress(data, MOST)
-    except zlib.error as error:
-        raise Refused(f"its profile isn't deflated as it should be: {error}") from error
-    if not inflating.eof:
-        raise Refused("its profile is cut off, or longer than 16 MiB")
-    return plain
 
 
 def _with_exif(kept: Kept, exif: bytes) -> Tuple[Kept, List[str]]:
