@@ -171,8 +171,31 @@ def test_other_hosts_are_refused(site):
 def test_it_ends_when_the_server_ends(site):
     shown = Shown(site, site)
     assert shown.get("/images/end")[0] == 502
-    shown.child.communicate(timeout=20)
-    assert shown.child.returncode == 3
+    _, told = shown.child.communicate(timeout=20)
+    assert shown.child.returncode == 3 and "jk.view: jk serve ended with the status 3" in told
+    ended(site, shown)
+
+
+def test_it_ends_when_the_server_is_killed(site):
+    shown = Shown(site, site)
+    for at in running(site):
+        with open(at, "rb") as file:
+            if b"\0serve\0" in file.read():
+                os.kill(int(at.split("/")[2]), signal.SIGKILL)
+    _, told = shown.child.communicate(timeout=20)
+    assert shown.child.returncode == 137 and "jk.view: jk serve was ended by SIGKILL" in told
+    ended(site, shown)
+
+
+def test_under_nohup_a_closed_terminal_ends_nothing(site):
+    before = signal.signal(signal.SIGHUP, signal.SIG_IGN)
+    try:
+        shown = Shown(site, site)
+    finally:
+        signal.signal(signal.SIGHUP, before)
+    shown.child.send_signal(signal.SIGHUP)
+    assert shown.get("/images")[0] == 200
+    assert shown.end()[0] == 0
     ended(site, shown)
 
 
@@ -195,7 +218,7 @@ def test_what_it_says_need_not_be_read(site):
 
 
 def test_it_ends_when_it_is_asked_to(site):
-    for number in (signal.SIGINT, signal.SIGTERM):
+    for number in (signal.SIGINT, signal.SIGTERM, signal.SIGHUP):
         for wait in (0, 0.05, 0.3):
             shown = Shown(site, site)
             time.sleep(wait)
@@ -205,7 +228,7 @@ def test_it_ends_when_it_is_asked_to(site):
 
 def test_it_ends_while_the_server_starts(site):
     (site / "slow").touch()
-    for number in (signal.SIGINT, signal.SIGTERM):
+    for number in (signal.SIGINT, signal.SIGTERM, signal.SIGHUP):
         child = begun(site, site)
         assert child.stderr.readline() == "jk: opening\n"
         child.send_signal(number)

@@ -272,11 +272,19 @@ def show(asked: argparse.Namespace, links: str) -> int:
                 print(f"{page.address}  (Ctrl-C ends it)", flush=True)
                 if not asked.no_browser:
                     webbrowser.open(page.address)
-                return served.wait()
+                return ended(served.wait())
             finally:
                 page.shutdown()
     finally:
         served.end()
+
+
+def ended(status: int) -> int:
+    """Says that `jk serve` has ended by itself; the status that it leaves."""
+    how = f"was ended by {signal.Signals(-status).name}" if status < 0 else f"ended with the status {status}"
+    with contextlib.suppress(OSError, ValueError):
+        print(f"jk.view: jk serve {how}; the page ends with it", file=sys.stderr, flush=True)
+    return 128 - status if status < 0 else status
 
 
 def words_of(line: Optional[Sequence[str]]) -> argparse.Namespace:
@@ -294,8 +302,12 @@ def words_of(line: Optional[Sequence[str]]) -> argparse.Namespace:
 
 def main(line: Optional[Sequence[str]] = None) -> int:
     asked = words_of(line)
-    # A request to end is taken as Ctrl-C, so that nothing is left running and no folder stays.
-    signal.signal(signal.SIGTERM, signal.default_int_handler)
+    # A request to end, or a terminal that was closed, is taken as Ctrl-C, so that nothing is left running and no folder
+    # stays.
+    for number in (signal.SIGTERM, signal.SIGHUP):
+        # nohup has SIGHUP ignored.
+        if signal.getsignal(number) != signal.SIG_IGN:
+            signal.signal(number, signal.default_int_handler)
     links = tempfile.mkdtemp(prefix="jk-view-")
     try:
         return show(asked, links)
