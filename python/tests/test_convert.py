@@ -197,16 +197,35 @@ def test_samples_are_not_turned(tmp_path, turned):
     assert (row.carried, row.notes) == ("orientation" * (turned > 1), "read again by Pillow")
 
 
-@pytest.mark.parametrize("extra, word", [(0, "not told"), (1, "multiplied"), (2, "opacity")])
-@pytest.mark.parametrize("shape", [(9, 11, 4), (9, 11, 2)])
-def test_opacity_of_a_tiff_has_a_file_of_its_own(tmp_path, shape, extra, word):
-    samples = noise(shape, U8)
+@pytest.mark.parametrize("extra, kind", [(0, "unspecified"), (1, "premultiplied"), (2, "straight")])
+@pytest.mark.parametrize("shape, dtype", [((9, 11, 4), U8), ((9, 11, 2), U8), ((9, 11, 4), U16), ((9, 11, 2), U16)])
+def test_opacity_of_a_tiff_is_in_one_file(tmp_path, shape, dtype, extra, kind):
+    samples = noise(shape, dtype)
     source = tiffs.tiff(tmp_path / "a.tif", samples, fields={338: (3, [extra])})
-    found = converted(source, tmp_path / "a.jp2")
-    assert [row.out for row in found] == ["a.jp2", "a-alpha.jp2"] and word in found[0].notes
-    colours = samples[:, :, :3] if shape[2] == 4 else samples[:, :, 0]
-    assert np.array_equal(jk.read(tmp_path / "a.jp2"), colours)
-    assert np.array_equal(jk.read(tmp_path / "a-alpha.jp2"), samples[:, :, -1])
+    row, = converted(source, tmp_path / "a.jp2", strict=True)
+    assert row.image == f"11 9 {shape[2]} {8 * samples.itemsize}" and f"opacity: {kind}" in row.notes
+    assert row.sha256_of_samples == hashlib.sha256(samples.tobytes()).hexdigest()
+    assert jk.info(tmp_path / "a.jp2").opacity == kind and np.array_equal(jk.read(tmp_path / "a.jp2"), samples)
+    converted(tmp_path / "a.jp2", tmp_path / "b.tif", strict=True)
+    with tifffile.TiffFile(tmp_path / "b.tif") as file:
+        assert np.array_equal(file.asarray(), samples) and int(file.pages[0].extrasamples[0]) == extra
+    if kind != "straight":
+        refused(tmp_path / "a.jp2", tmp_path / "b.png", "PNG holds straight opacity")
+    # Bare codestreams, and PGM and PPM files, don't tell of an opacity.
+    for source, ending in ((source, "j2k"), (tmp_path / "a.jp2", "pnm")):
+        found = converted(source, tmp_path / f"c.{ending}")
+        assert [it.out for it in found] == [f"c.{ending}", f"c-alpha.{ending}"] and "of the image before" in found[1].notes
+
+
+def test_components_in_another_order(tmp_path):
+    from test_opacity import with_channels
+    samples = noise((9, 11, 4))
+    file = with_channels(jk.encode(samples, opacity="straight"), [(0, 1, 0), (1, 0, 3), (2, 0, 2), (3, 0, 1)])
+    (tmp_path / "a.jp2").write_bytes(file)
+    converted(tmp_path / "a.jp2", tmp_path / "a.tif")
+    assert np.array_equal(tifffile.imread(tmp_path / "a.tif"), samples[:, :, [3, 2, 1, 0]])
+    (tmp_path / "b.jp2").write_bytes(with_channels(file, [(0, 1, 0), (1, 0, 3), (2, 0, 2), (3, 0, 7)]))
+    refused(tmp_path / "b.jp2", tmp_path / "b.tif", "F13 BadBox: the box cdef defines other channels")
 
 
 @pytest.mark.parametrize("word, shape, dtype, fields", [
@@ -320,13 +339,15 @@ def test_each_filter_is_written_as_the_standard_has_it(monkeypatch, kind):
 
 
 @pytest.mark.parametrize("shape, dtype", [((9, 11, 2), U8), ((9, 11, 4), U8), ((9, 11, 2), U16), ((9, 11, 4), U16)])
-def test_opacity_of_a_png_has_a_file_of_its_own(tmp_path, shape, dtype):
+def test_opacity_of_a_png_is_in_one_file(tmp_path, shape, dtype):
     samples = noise(shape, dtype)
-    found = converted(tiffs.png(tmp_path / "a.png", samples), tmp_path / "a.jp2")
-    assert [(row.out, row.part) for row in found] == [("a.jp2", "1/2"), ("a-alpha.jp2", "2/2")]
-    assert np.array_equal(jk.read(tmp_path / "a.jp2"), samples[:, :, :3] if shape[2] == 4 else samples[:, :, 0])
-    assert np.array_equal(jk.read(tmp_path / "a-alpha.jp2"), samples[:, :, -1])
-    assert "read again by Pillow" in found[0].notes
+    chunks = [(b"iCCP", b"name\0\0" + zlib.compress(icc(b"GRAY" if shape[2] == 2 else b"RGB ")))]
+    row, = converted(tiffs.png(tmp_path / "a.png", samples, chunks=chunks), tmp_path / "a.jp2", strict=True)
+    assert np.array_equal(jk.read(tmp_path / "a.jp2"), samples) and jk.extras(tmp_path / "a.jp2").profile
+    assert jk.info(tmp_path / "a.jp2").opacity == "straight" and "read again by Pillow" in row.notes
+    converted(tmp_path / "a.jp2", tmp_path / "b.png", strict=True)
+    picture, = png.pictures(str(tmp_path / "b.png"))
+    assert np.array_equal(picture.whole(), samples) and picture.kept.profile
 
 
 def test_what_stands_beside_the_samples_of_a_png(tmp_path):

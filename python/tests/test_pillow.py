@@ -47,12 +47,23 @@ def test_an_image_comes_back(tmp_path, shape, dtype, mode, depth, ending):
 
 @pytest.mark.parametrize("samples, depth", [
     (noise((9, 11, 3), U16), 16), (noise((9, 11, 3), U16, 9), 9), (noise((9, 11), np.int8), 8),
-    (noise((9, 11), np.int16), 16), (noise((9, 11, 2)), 8), (noise((9, 11, 4)), 8),
+    (noise((9, 11), np.int16), 16), (noise((9, 11, 2), U8, 7), 7), (noise((9, 11, 4), U16), 16),
 ])
 def test_what_pillow_has_no_mode_for_raises(tmp_path, samples, depth):
     jk.write(tmp_path / "a.jp2", samples, depth=depth)
     with pytest.raises(jk.pillow.NoMode, match="jk.read"):
         Image.open(tmp_path / "a.jp2")
+
+
+@pytest.mark.parametrize("mode, kind", [("LA", "straight"), ("RGBA", "straight"), ("La", "premultiplied"), ("RGBa", "premultiplied")])
+@pytest.mark.parametrize("ending", ["jp2", "j2k"])
+def test_an_image_with_opacity_comes_back(tmp_path, mode, kind, ending):
+    samples = noise((9, 11, len(mode)))
+    Image.fromarray(samples, mode).save(tmp_path / f"a.{ending}")
+    assert jk.info(tmp_path / f"a.{ending}").opacity == (kind if ending == "jp2" else None)
+    with Image.open(tmp_path / f"a.{ending}") as image:
+        # A bare codestream doesn't tell of the kind.
+        assert image.mode == (mode if ending == "jp2" else mode.upper()) and np.array_equal(np.asarray(image), samples)
 
 
 def test_damage_raises_and_no_other_plugin_is_asked(tmp_path):
@@ -71,7 +82,7 @@ def test_damage_raises_and_no_other_plugin_is_asked(tmp_path):
         Image.open(tmp_path / "c.jp2")
 
 
-@pytest.mark.parametrize("mode", ["1", "P", "I", "F", "LA", "RGBA", "CMYK", "YCbCr", "I;16B"])
+@pytest.mark.parametrize("mode", ["1", "P", "I", "F", "CMYK", "YCbCr", "I;16B"])
 def test_other_modes_are_not_written(tmp_path, mode):
     with pytest.raises(jk.pillow.NoMode, match=f"mode {mode}"):
         Image.new(mode, (9, 11)).save(tmp_path / "a.jp2")

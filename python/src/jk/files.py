@@ -9,7 +9,7 @@ from typing import Any, Optional, SupportsIndex, Tuple, Union
 
 import numpy as np
 
-from . import _calls, _colour
+from . import _calls, _colour, _opacity
 from ._extras import Extras, boxes_of, extras_of
 from ._placing import placed
 from .faults import BadParameters, check
@@ -37,6 +37,9 @@ class Info:
     signed: bool
     #: So often the image can be halved.
     levels: int
+    #: What the last of 2 or 4 components of a JP2 file is: "straight" opacity, "premultiplied" where colours are multiplied
+    #: by it, "unspecified"; None where the file doesn't tell.
+    opacity: Optional[str] = None
 
     @property
     def shape(self) -> Tuple[int, ...]:
@@ -88,6 +91,7 @@ def _info(data: np.ndarray, reduce: int) -> Info:
     return Info(
         frame.x0, frame.y0, frame.width, frame.height,
         frame.components, frame.depth, bool(frame.is_signed), frame.levels,
+        _opacity.opacity_of(data, frame.components) if frame.components in (2, 4) else None,
     )
 
 
@@ -167,14 +171,22 @@ def with_extras(file: File, extras: Extras) -> bytes:
     """
     data = _bytes_of(file)
     boxes = np.frombuffer(boxes_of(extras), np.uint8)
+    told = _info(data, 0) if extras.profile is not None or extras.any_profile is not None else None
+    colours = told.components - (told.opacity is not None) if told is not None else 0
+    has_opacity = told is not None and told.opacity is not None
+    if has_opacity:
+        # A profile is for the colours alone.
+        data = np.frombuffer(_opacity.counted(data.tobytes(), colours), np.uint8)
     made = _handed_out(lambda *out: _calls.with_extras(*_list(data), *_list(boxes), *out), data.size + boxes.size)
+    if has_opacity:
+        made = _opacity.counted(made, colours + 1)
     if extras.any_profile is None:
         return made
-    _colour.check_profile(extras.any_profile, _info(data, 0).components)
+    _colour.check_profile(extras.any_profile, colours)
     return _colour.with_any_profile(made, extras.any_profile)
 
 
-def _coding(components: int, signed: bool, parameters: dict) -> _calls.Coding:
+def _coding(components: int, colours: int, signed: bool, parameters: dict) -> _calls.Coding:
     def taken(name: str, default: Any) -> Any:
         return parameters.pop(name, default)
 
@@ -193,9 +205,11 @@ def _coding(components: int, signed: bool, parameters: dict) -> _calls.Coding:
     for place, (wide, high) in enumerate(precincts):
         coding.precincts[place] = wide | high << 4
     colour = taken("colour", None)
-    coding.colour = components == 3 if colour is None else bool(colour)
+    coding.colour = colours == 3 if colour is None else bool(colour)
     coding.sop, coding.eph = bool(taken("sop", False)), bool(taken("eph", False))
     raw = taken("raw", None)
+    if raw and colours < components:
+        raise BadParameters("a bare codestream doesn't tell of an opacity")
     coding.raw = signed or components not in (1, 3) if raw is None else bool(raw)
     coding.style = sum(bit for style, bit in STYLES.items() if taken(style, False))
     if parameters:
@@ -211,7 +225,8 @@ def encode(array: np.ndarray, *, extras: Optional[Extras] = None, **parameters: 
     sample's (x, y) on the reference grid; `levels` (5), `layers` (1), `order` ("LRCP"), `tile` (width, height),
     `block` and `precincts` by exponents ((6, 6), none), `colour` (with three components), `sop`, `eph`, `reset`,
     `causal` and `segments` for the styles of code-blocks, and `raw` for a bare codestream (with 2 and 4 components,
-    and signed samples, which JP2 doesn't hold).
+    and signed samples, which JP2 doesn't hold). With `opacity` the last of 2 or 4 components is one, and the file is a JP2
+    file with the box cdef: "straight", "premultiplied" where colours are multiplied by it, or "unspecified".
     """
     if isinstance(array, np.ma.MaskedArray):
         raise TypeError("a masked array: a file holds no mask, so give array.filled(..), or array.data")
@@ -227,15 +242,29 @@ def encode(array: np.ndarray, *, extras: Optional[Extras] = None, **parameters: 
         x0=_word(x0), y0=_word(y0), width=image.shape[1], height=image.shape[0],
         components=components, depth=_word(depth), is_signed=image.dtype.kind == "i",
     )
-    coding = _coding(components, image.dtype.kind == "i", parameters)
-    if extras is not None and coding.raw:
+    opacity = parameters.pop("opacity", None)
+    coding = _coding(components, components - (opacity is not None), image.dtype.kind == "i", parameters)
+    if opacity is not None:
+        _check_opacity(opacity, image, components, coding)
+    elif extras is not None and coding.raw:
         raise BadParameters("a bare codestream keeps nothing beside the samples, and JP2 has no signed ones and no 2 or 4 "
                             "components")
     call = _calls.encode[image.dtype.name]
     told, asked = ctypes.byref(frame), ctypes.byref(coding)
     room = image.nbytes + image.nbytes // 4 + 65536
     file = _handed_out(lambda *out: call(told, *_list(image), asked, *out), room)
+    if opacity is not None:
+        file = _opacity.wrapped(file, image.shape[1], image.shape[0], frame.depth, components, opacity)
     return file if extras is None else with_extras(file, extras)
+
+
+def _check_opacity(kind: str, image: np.ndarray, components: int, coding: _calls.Coding) -> None:
+    """Whether an image may have an opacity; it is encoded as a bare codestream, and the package puts boxes around it."""
+    if kind not in _opacity.KINDS:
+        raise ValueError(f"opacity {kind!r} isn't one of {', '.join(_opacity.KINDS)}")
+    if components not in (2, 4) or image.dtype.kind == "i":
+        raise BadParameters("an opacity is the last of 2 or 4 components of unsigned samples")
+    coding.raw = True
 
 
 def write(

@@ -27,9 +27,11 @@ BEGINNINGS = (b"\0\0\0\x0cjP  \r\n\x87\n", b"\xff\x4f\xff\x51")
 #: The endings of what `save` writes, and whether that is a bare codestream.
 ENDINGS = {".jp2": False, ".j2k": True}
 #: Pillow's type of an element, by the mode.
-MODES = {"L": "uint8", "RGB": "uint8", "I;16": "uint16"}
+MODES = {"L": "uint8", "RGB": "uint8", "I;16": "uint16", "LA": "uint8", "La": "uint8", "RGBA": "uint8", "RGBa": "uint8"}
+#: Modes of 2 and 4 components, and what kind of opacity their last one is.
+OF_OPACITY = {"LA": "straight", "RGBA": "straight", "La": "premultiplied", "RGBa": "premultiplied"}
 PARAMETERS = ("depth", "levels", "layers", "order", "tile", "block", "precincts", "colour", "sop", "eph", "reset",
-              "causal", "segments", "raw", "place")
+              "causal", "segments", "raw", "place", "opacity")
 #: What stands beside the samples, as `save` takes it, and in `info` of an image; what `Extras` calls it; and what it is.
 BESIDE = {"icc_profile": ("profile", "profile"), "dpi": ("resolution", "resolution"), "xmp": ("xmp", "XMP"),
           "exif": ("exif", "EXIF")}
@@ -45,6 +47,10 @@ def mode_of(told: Info) -> str:
         return "L" if told.depth <= 8 else "I;16"
     if not told.signed and told.components == 3 and told.depth <= 8:
         return "RGB"
+    if not told.signed and told.depth == 8:
+        # Colours that are multiplied by their opacity have modes of their own.
+        kind = "premultiplied" if told.opacity == "premultiplied" else "straight"
+        return next(mode for mode, it in OF_OPACITY.items() if it == kind and len(mode) == told.components)
     kind = "signed" if told.signed else "unsigned"
     raise NoMode(f"Pillow has no mode for {told.components} components of {told.depth} bits, {kind}: jk.read gives "
                  "them")
@@ -146,6 +152,8 @@ def save(image: Image.Image, out: IO[bytes], name: Union[str, bytes]) -> None:
                      "arrays")
     ending = os.path.splitext(os.fsdecode(name))[1].lower()
     asked.setdefault("raw", ENDINGS.get(ending, False))
+    if image.mode in OF_OPACITY and not asked["raw"]:
+        asked.setdefault("opacity", OF_OPACITY[image.mode])
     samples = np.asarray(image)
     asked.setdefault("depth", depth_for(samples, image))
     out.write(_given(encode(samples, **asked), given, image))

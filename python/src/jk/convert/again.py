@@ -39,8 +39,7 @@ def agreed(path: str, kind: str, picture: Picture) -> Optional[str]:
 
 def _whole(picture: Picture) -> np.ndarray:
     """Samples with their opacity, (height, width, samples of a pixel)."""
-    parts = [picture.samples] if picture.alpha is None else [picture.samples, picture.alpha]
-    return np.dstack(parts) if len(parts) > 1 or parts[0].ndim == 2 else parts[0]
+    return np.atleast_3d(picture.whole())
 
 
 def _expect(is_so: bool, reader: str) -> str:

@@ -4,8 +4,8 @@ from __future__ import annotations
 import contextlib
 import os
 import stat
-from dataclasses import dataclass
-from typing import Iterator, Optional, Tuple
+from dataclasses import dataclass, replace
+from typing import Iterator, List, Optional, Tuple
 
 import numpy as np
 
@@ -43,8 +43,20 @@ class Picture:
     notes: Tuple[str, ...] = ()
     #: Opacity, (height, width), of the depth of the samples.
     alpha: Optional[np.ndarray] = None
+    #: What kind of opacity that is, as `jk.encode` takes it.
+    opacity: str = "straight"
     #: Which image of its file it is, from 0 on.
     number: int = 0
+
+    def whole(self) -> np.ndarray:
+        """Samples with their opacity behind them."""
+        return self.samples if self.alpha is None else np.dstack([self.samples, self.alpha])
+
+    def apart(self) -> List["Picture"]:
+        """The image, and its opacity as another one."""
+        if self.alpha is None:
+            return [self]
+        return [replace(self, alpha=None), Picture(self.alpha, self.depth, notes=("of the image before",))]
 
 
 def kind_of(path: str) -> str:

@@ -10,6 +10,7 @@ import numpy as np
 from .. import _beside, _extras
 from .._beside import Damaged, Kept, Resolution
 from .._colour import ANY, RESTRICTED, VENDOR, Colour, colours_of
+from .._opacity import channels_of, order_of
 from ..faults import BadParameters, Fault
 from ..files import encode, extras, info, read, with_extras
 from .images import Picture, Refused
@@ -28,11 +29,18 @@ def pictures(path: str) -> Iterator[Picture]:
     """The image of a file."""
     data = np.fromfile(path, np.uint8)
     told = info(data)
-    if told.components not in (1, 3):
-        raise Refused(f"the image has {told.components} components, and jk.convert takes 1 and 3")
-    is_moved = (told.x0, told.y0) != (0, 0)
+    order, opacity = order_of(channels_of(data), told.components)
+    colours = told.components - (opacity is not None)
+    if colours not in (1, 3):
+        raise Refused(f"the image has {told.components} components, and no box cdef tells what they are: jk.convert takes "
+                      "grey and RGB, with an opacity or without")
     kept, lost = beside(data)
-    yield Picture(read(data), told.depth, kept, (*lost, *["place on the reference grid"] * is_moved))
+    if (told.x0, told.y0) != (0, 0):
+        lost.append("place on the reference grid")
+    samples = np.atleast_3d(read(data))[:, :, order]
+    alpha = np.ascontiguousarray(samples[:, :, -1]) if opacity else None
+    image = np.ascontiguousarray(samples[:, :, 0] if colours == 1 else samples[:, :, :3])
+    yield Picture(image, told.depth, kept, tuple(lost), alpha=alpha, opacity=opacity or "straight")
 
 
 def beside(data: np.ndarray) -> Tuple[Kept, List[str]]:
@@ -135,10 +143,14 @@ def _boxes(file: memoryview) -> List[str]:
 
 def write(out: BinaryIO, picture: Picture, raw: bool, parameters: Dict[str, Any]) -> Tuple[List[str], List[str]]:
     """Writes an image; what of `kept` isn't in it, and notes."""
-    samples = picture.samples
+    samples = picture.whole()
     if samples.dtype.kind == "i" and not raw:
         raise Refused("samples are signed, and JP2 holds none: a bare codestream does (--raw, or OUT.j2k)")
-    file, left, notes = handed(encode(samples, depth=picture.depth, raw=raw, **parameters), picture, raw)
+    if picture.alpha is None:
+        file = encode(samples, depth=picture.depth, raw=raw, **parameters)
+    else:
+        file = encode(samples, depth=picture.depth, opacity=picture.opacity, **parameters)
+    file, left, notes = handed(file, picture, raw)
     out.write(file)
     return left, notes
 

@@ -20,6 +20,8 @@ from .rows import Row
 READERS: Dict[str, Callable[[str], Iterator[Picture]]] = {
     "tiff": tiff.pictures, "png": png.pictures, "pnm": pnm.pictures, "jp2": jp2.pictures,
 }
+#: What a row says where no second reader reads a file.
+ALONE = "read by one reader alone"
 #: What isn't carried where it isn't asked for.
 GEO_LEFT = "GeoTIFF (--geo carries it)"
 WRITERS: Dict[str, Callable[[BinaryIO, Picture], List[str]]] = {
@@ -106,12 +108,10 @@ def converted(job: Job) -> List[Row]:
                 if picture.kept.geo and not asked.geo:
                     picture = replace(picture, kept=replace(picture.kept, geo=()), lost=(*picture.lost, GEO_LEFT))
                 reader = agreed(job.source, kind, picture)
-                notes = [*picture.notes, f"read again by {reader}" if reader else "read by one reader alone"]
+                picture = replace(picture, notes=(*picture.notes, f"read again by {reader}" if reader else ALONE))
                 stem = f"{job.stem}-{number:04}" if count > 1 else job.stem
-                made.append(written(job, stem, picture, notes, placing))
-                if picture.alpha is not None:
-                    opacity = Picture(picture.alpha, picture.depth)
-                    made.append(written(job, f"{stem}-alpha", opacity, ["of the image before"], placing))
+                parts = [picture] if holds_opacity(job) else picture.apart()
+                made += [written(job, stem + ending, part, placing) for ending, part in zip(("", "-alpha"), parts)]
         placing.place()
     seconds = f"{time.monotonic() - begun:.3f}"
     return [Row(job.name, size, out=os.path.relpath(out, job.base), part=f"{number}/{len(made)}", seconds=seconds,
@@ -136,10 +136,17 @@ def ending_of(job: Job, picture: Picture) -> str:
     return job.ending or due[job.asked.to]
 
 
+def holds_opacity(job: Job) -> bool:
+    """Whether an image and its opacity go to one file: else to two, as PGM and PPM files and bare codestreams."""
+    is_bare = job.asked.raw or job.ending.lower() in (".j2k", ".j2c", ".jpc")
+    return job.asked.to != "pnm" and not job.asked.into and not is_bare
+
+
 def written(
-    job: Job, stem: str, picture: Picture, notes: List[str], placing: Union[Placing, Adding]
+    job: Job, stem: str, picture: Picture, placing: Union[Placing, Adding]
 ) -> Tuple[str, Dict[str, str]]:
     """Writes an image beside its place and reads it back; where it goes, and what its row tells."""
+    notes = list(picture.notes)
     out, kind = stem + ending_of(job, picture), "pnm" if job.asked.into else job.asked.to
     if job.asked.into and picture.samples.dtype.kind == "i":
         raise Refused("samples are signed, and an archive holds none")
@@ -154,15 +161,18 @@ def written(
         raise Refused(f"not carried: {', '.join(lost)}")
     notes = notes + read_back(path, kind, picture, out) + [f"not carried: {', '.join(lost)}"] * bool(lost)
     carried = ", ".join(name for name in picture.kept.names() if name not in left)
-    return out, {"image": image_of(picture), "sha256_of_samples": digest_of_samples(picture.samples),
+    return out, {"image": image_of(picture), "sha256_of_samples": digest_of_samples(picture.whole()),
                  "carried": carried, "notes": "; ".join(notes)}
 
 
 def read_back(path: str, kind: str, picture: Picture, out: str) -> List[str]:
     """Compares what stands on the disk, and is to go to OUT, with an image; notes."""
     back, = READERS[kind](path)
-    if back.samples.dtype != picture.samples.dtype or not np.array_equal(back.samples, picture.samples):
+    ours, theirs = picture.whole(), back.whole()
+    if ours.dtype != theirs.dtype or not np.array_equal(ours, theirs):
         raise Refused("what was written reads back with other samples")
+    if picture.alpha is not None and back.opacity != picture.opacity:
+        raise Refused("what was written reads back with another kind of opacity")
     # PNG has no place for IPTC and GeoTIFF, and PGM, PPM and a bare codestream for nothing.
     due = replace(picture.kept, iptc=b"", geo=()) if kind == "png" else picture.kept
     has_place = kind in ("tiff", "png") or kind == "jp2" and out.lower().endswith(".jp2")
@@ -176,7 +186,7 @@ def read_back(path: str, kind: str, picture: Picture, out: str) -> List[str]:
 
 def image_of(picture: Picture) -> str:
     """Width, height, components and bits of a sample."""
-    height, width, *components = picture.samples.shape
+    height, width, *components = picture.whole().shape
     return f"{width} {height} {(components or [1])[0]} {picture.depth}"
 
 

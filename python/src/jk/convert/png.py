@@ -209,10 +209,12 @@ def _rounded(resolution: Resolution) -> Tuple[int, int, int]:
 
 def write(out: BinaryIO, picture: Picture) -> List[str]:
     """Writes an image; what of `kept` isn't in it."""
-    samples, depth = picture.samples, picture.depth
+    samples, depth = picture.whole(), picture.depth
     if samples.dtype.kind == "i":
         raise Refused("samples are signed, and PNG holds none")
-    colour = 0 if samples.ndim == 2 else 2
+    colour = (0 if picture.samples.ndim == 2 else 2) + (0 if picture.alpha is None else 4)
+    if picture.alpha is not None and (picture.opacity != "straight" or depth not in (8, 16)):
+        raise Refused(f"PNG holds straight opacity of 8 and 16 bits, and this one is {picture.opacity} of {depth}")
     depth = next(it for it in DEPTHS[colour] if it >= depth)
     height, width = samples.shape[:2]
     out.write(SIGNATURE)

@@ -26,6 +26,8 @@ PLAIN, DEFLATE = (1,), (8, 32946)
 BY_TIFFCP = (2, 3, 4, 5, 32773)
 COMPRESSIONS = {6: "JPEG", 7: "JPEG", 34712: "JPEG 2000", 34925: "LZMA", 50000: "Zstandard", 50001: "WebP"}
 WHITE_IS_ZERO, BLACK_IS_ZERO, RGB = range(3)
+#: Kinds of opacity, by ExtraSamples.
+OPACITIES = {0: "unspecified", 1: "premultiplied", 2: "straight"}
 WAY_OUT = "ImageMagick's `convert IN.tif {} OUT.tif` makes RGB of it, with {}"
 OF_COLOUR = "the image is {}, and jk.convert takes grey and RGB: " + WAY_OUT.format("-colorspace sRGB", "other samples")
 #: Why samples of other photometric interpretations aren't taken.
@@ -268,10 +270,11 @@ def _picture(path: str, number: int, form: Form, told: Picture) -> Picture:
         raise Refused(f"tifffile reads it otherwise: {(warnings.told or [str(samples.shape)])[0]}")
     planes = samples[:, 0, :, :, 0].transpose(1, 2, 0) if shape[0] > 1 else samples[0, 0]
     planes = planes.astype(type_of(form.bits, form.signed), copy=False)
-    alpha, notes = None, list(told.notes)
+    alpha, opacity, notes = None, "straight", list(told.notes)
     if form.samples > form.colours:
         alpha = np.ascontiguousarray(planes[:, :, -1])
-        what = {1: "opacity, by which samples are multiplied already", 2: "opacity"}.get(form.extra or 0, "not told")
-        notes.append(f"what the sample behind the colour is: {what}")
+        opacity = OPACITIES.get(form.extra or 0, "unspecified")
+        notes.append(f"opacity: {opacity}")
     colours = planes[:, :, 0] if form.colours == 1 else planes[:, :, :3]
-    return replace(told, samples=np.ascontiguousarray(colours), depth=form.bits, alpha=alpha, notes=tuple(notes))
+    return replace(told, samples=np.ascontiguousarray(colours), depth=form.bits, alpha=alpha, opacity=opacity,
+                   notes=tuple(notes))
