@@ -233,7 +233,7 @@ def test_components_in_another_order(tmp_path):
     ("Lab", (9, 11, 3), U8, {262: (3, [8])}), ("YCbCr", (9, 11, 3), U8, {262: (3, [6])}),
     ("mask", (9, 11), U8, {262: (3, [4])}), ("interpretation is 32803", (9, 11), U8, {262: (3, [32803])}),
     ("floating-point", (9, 11), np.float32, {339: (3, [3])}), ("32 bits", (9, 11), np.uint32, {}),
-    ("complex", (9, 11), U16, {339: (3, [6])}), ("have 12 bits", (9, 12), U8, {256: (4, [8]), 258: (3, [12])}),
+    ("complex", (9, 11), U16, {339: (3, [6])}), ("have 12 bits", (9, 12, 3), U8, {256: (4, [8]), 258: (3, [12] * 3)}),
     ("5 samples", (9, 11, 5), U8, {262: (3, [2]), 338: (3, [0, 0])}), ("compressed by JPEG,", (9, 11), U8, {259: (3, [7])}),
     ("scheme 32809", (9, 11), U8, {259: (3, [32809])}), ("depth of its own", (9, 11), U8, {32997: (4, [2])}),
     ("predictor", (9, 11), U8, {317: (3, [3])}), ("2 strips or tiles, and tells 1 places", (9, 11), U8, {278: (4, [5])}),
@@ -354,14 +354,14 @@ def test_what_stands_beside_the_samples_of_a_png(tmp_path):
     exif = _beside.exif_of(_beside.Kept(orientation=8, resolution=_beside.Resolution((3001, 10), (300, 1), "inch")))
     chunks = [(b"iCCP", b"name\0\0" + zlib.compress(b"the profile")), (b"pHYs", struct.pack(">LLB", 11815, 11811, 1)),
               (b"iTXt", b"XML:com.adobe.xmp\0\0\0\0\0<x/>"), (b"eXIf", exif), (b"gAMA", bytes(4)),
-              (b"tEXt", b"Title\0a page"), (b"tRNS", bytes(2))]
+              (b"tEXt", b"Title\0a page")]
     source = tiffs.png(tmp_path / "a.png", noise((9, 11)), chunks=chunks)
     picture, = png.pictures(str(source))
     assert picture.kept == _beside.Kept(b"the profile", _beside.Resolution((3001, 10), (300, 1), "inch"), b"<x/>",
                                         orientation=8)
-    assert picture.lost == ("gAMA", "tEXt Title", "tRNS")
+    assert picture.lost == ("gAMA", "tEXt Title")
     row, = converted(source, tmp_path / "a.jp2")
-    assert row.notes.endswith(f"not carried: gAMA, tEXt Title, tRNS, {IN_EXIF}")
+    assert row.notes.endswith(f"not carried: gAMA, tEXt Title, {IN_EXIF}")
     assert row.carried == "profile, resolution, XMP, orientation"
     chunks[1] = (b"pHYs", struct.pack(">LLB", 2835, 2835, 1))
     picture, = png.pictures(str(tiffs.png(tmp_path / "b.png", noise((9, 11)), chunks=chunks)))
@@ -1158,3 +1158,116 @@ def test_the_second_text_is_told(tmp_path):
     chunks = [(b"tEXt", XMP_KEY + b"\0<x/>"), (b"zTXt", raw(b"xmp", b"<y/>"))]
     row, = converted(tiffs.png(tmp_path / "a.png", noise((9, 11)), chunks=chunks), tmp_path / "a.jp2")
     assert row.notes.endswith("not carried: zTXt Raw profile type xmp") and row.carried == "XMP"
+
+
+# Palettes, opacity of one colour, and other depths.
+
+def packed(samples, bits):
+    """Rows of samples bit by bit, the upper bits first."""
+    found = samples[:, :, np.newaxis].astype(np.uint16) >> np.arange(bits, dtype=np.uint16)[::-1] & 1
+    return np.packbits(found.astype(np.uint8).reshape(len(samples), -1), axis=1)
+
+
+@pytest.mark.parametrize("bits", [1, 2, 3, 4, 6, 7, 9, 10, 12, 14, 15])
+@pytest.mark.parametrize("order, how", [("<", {}), (">", {"rows": 2}), ("<", {"compression": 8}), ("<", {"white": 0}), ("<", {"turned": True})])
+def test_grey_of_other_depths(tmp_path, bits, order, how):
+    samples = noise((9, 11), U16, bits).astype(U8 if bits <= 8 else U16)
+    rows_ = packed(samples, bits)
+    how, white, turned = {"rows": 16, **how}, how.get("white", 1), how.get("turned")
+    step = how["rows"]
+    data = [rows_[at : at + step] for at in range(0, 9, step)]
+    if turned:
+        data = [np.packbits(np.unpackbits(it, axis=1).reshape(len(it), -1, 8)[:, :, ::-1].reshape(len(it), -1), axis=1) for it in data]
+    data = [zlib.compress(it.tobytes()) if how.get("compression") == 8 else it.tobytes() for it in data]
+    fields = {258: (3, [bits]), 262: (3, [white]), **({266: (3, [2])} if turned else {})}
+    source = tiffs.tiff(tmp_path / "a.tif", samples, order=order, rows=step, compression=how.get("compression", 1), parts=data, fields=fields)
+    row, = converted(source, tmp_path / "a.jp2", strict=True)
+    assert row.image == f"11 9 1 {bits}" and np.array_equal(jk.read(tmp_path / "a.jp2"), samples)
+    assert ("Pillow" in row.notes) == (bits in (1, 2, 4)) or bits == 12
+    row, = converted(tmp_path / "a.jp2", tmp_path / "b.tif")
+    assert np.array_equal(np.asarray(tifffile.imread(tmp_path / "b.tif")) * 1, samples)
+
+
+@needs_tiffcp
+@pytest.mark.parametrize("bits, scheme", [(4, "lzw"), (2, "packbits"), (12, "lzw"), (4, "zip")])
+def test_grey_of_other_depths_that_is_packed(tmp_path, bits, scheme):
+    samples = noise((9, 11), U16, bits).astype(U8 if bits <= 8 else U16)
+    tiffs.tiff(tmp_path / "plain.tif", samples, parts=[packed(samples, bits).tobytes()], fields={258: (3, [bits])})
+    subprocess.run(["tiffcp", "-c", scheme, tmp_path / "plain.tif", tmp_path / "a.tif"], check=True)
+    converted(tmp_path / "a.tif", tmp_path / "a.jp2")
+    assert np.array_equal(jk.read(tmp_path / "a.jp2"), samples)
+
+
+@pytest.mark.parametrize("bits", [1, 4, 8])
+@pytest.mark.parametrize("scale, depth", [(257, 8), (256, 8), (1, 8), (251, 16)])
+def test_a_palette_of_a_tiff(tmp_path, bits, scale, depth):
+    numbers, colours = noise((9, 11), U8, bits), noise((1 << bits, 3), U8, seed=4)
+    colours[0] = 255
+    words = (colours.astype(np.int64) * scale).T.reshape(-1).tolist()
+    source = tiffs.tiff(tmp_path / "a.tif", numbers, parts=[packed(numbers, bits).tobytes()],
+                        fields={258: (3, [bits]), 262: (3, [3]), 320: (3, words)})
+    refused(source, tmp_path / "a.jp2", "with --palette rgb")
+    row, = converted(source, tmp_path / "a.jp2", palette="rgb", strict=True)
+    assert f"a palette of {1 << bits} colours, as RGB" in row.notes and row.image == f"11 9 3 {depth}"
+    assert np.array_equal(jk.read(tmp_path / "a.jp2"), colours[numbers].astype(np.int64) * (scale if depth == 16 else 1))
+    if depth == 8 and scale == 257:
+        assert np.array_equal(np.asarray(Image.open(source).convert("RGB")), jk.read(tmp_path / "a.jp2"))
+
+
+@pytest.mark.parametrize("bits", [1, 2, 4, 8])
+@pytest.mark.parametrize("opacities", [0, 1])
+def test_a_palette_of_a_png(tmp_path, bits, opacities):
+    numbers, colours = noise((9, 11), U8, bits), noise((1 << bits, 3), U8, seed=4)
+    chunks = [(b"PLTE", colours.tobytes())] + [(b"tRNS", b"\x11")] * opacities
+    source = tiffs.png(tmp_path / "a.png", numbers, depth=bits, colour=3, chunks=chunks)
+    refused(source, tmp_path / "a.jp2", "with --palette rgb")
+    told = run(source, tmp_path / "a.jp2", "--palette", "rgb")
+    kind = "RGB with opacity" if opacities else "RGB"
+    assert told.returncode == 0 and f"a palette of {1 << bits} colours, as {kind}" in told.stderr
+    assert "read again by Pillow" in told.stderr
+    due = np.asarray(Image.open(source).convert("RGBA" if opacities else "RGB"))
+    assert np.array_equal(jk.read(tmp_path / "a.jp2"), due)
+    assert jk.info(tmp_path / "a.jp2").opacity == ("straight" if opacities else None)
+
+
+def test_palettes_that_are_broken(tmp_path):
+    numbers = noise((9, 11), U8)
+    for chunks, word in (([(b"PLTE", bytes(3))], "a palette of 1"), ([], "colours aren't there"), ([(b"PLTE", bytes(4))], "aren't there")):
+        source = tiffs.png(tmp_path / "a.png", numbers, colour=3, chunks=chunks)
+        refused(source, tmp_path / "a.jp2", word, palette="rgb")
+    source = tiffs.tiff(tmp_path / "a.tif", numbers, fields={262: (3, [3])})
+    refused(source, tmp_path / "a.jp2", "colours aren't there", palette="rgb")
+    with pytest.raises(CannotConvert, match="isn't rgb"):
+        convert(source, tmp_path / "a.jp2", palette="grey")
+
+
+@pytest.mark.parametrize("shape, dtype, depth", [((9, 11), U8, 8), ((9, 11), U8, 2), ((9, 11), U16, 16), ((9, 11, 3), U8, 8), ((9, 11, 3), U16, 16)])
+def test_one_colour_that_is_transparent(tmp_path, shape, dtype, depth):
+    samples = noise(shape, dtype, depth)
+    key = np.atleast_1d(samples[4, 5]).astype(">u2").tobytes()
+    source = tiffs.png(tmp_path / "a.png", samples, depth=depth, chunks=[(b"tRNS", key)])
+    row, = converted(source, tmp_path / "a.jp2", strict=True)
+    assert "tRNS as opacity" in row.notes and "read again by Pillow" in row.notes
+    back = jk.read(tmp_path / "a.jp2")
+    whole = np.atleast_3d(samples)
+    assert np.array_equal(back[:, :, :-1], whole)
+    assert np.array_equal(back[:, :, -1] == 0, (whole == whole[4, 5]).all(axis=2)) and set(np.unique(back[:, :, -1])) <= {0, (1 << depth) - 1}
+
+
+def test_colours_that_a_png_proposes_are_told(tmp_path):
+    source = tiffs.png(tmp_path / "a.png", noise((9, 11, 3)), chunks=[(b"PLTE", bytes(9))])
+    assert converted(source, tmp_path / "a.jp2")[0].notes.endswith("not carried: PLTE")
+
+
+@needs_tiffcp
+def test_a_mere_warning_of_old_lzw_is_no_damage(tmp_path, monkeypatch):
+    samples = noise((9, 11))
+    tiffs.tiff(tmp_path / "plain.tif", samples)
+    subprocess.run(["tiffcp", "-c", "lzw", tmp_path / "plain.tif", tmp_path / "a.tif"], check=True)
+    (tmp_path / "bin").mkdir()
+    script = '#!/bin/sh\necho "LZWPreDecode: Warning, Old-style LZW codes, convert file." >&2\nexec ' + shutil.which("tiffcp") + ' "$@"\n'
+    (tmp_path / "bin" / "tiffcp").write_text(script)
+    (tmp_path / "bin" / "tiffcp").chmod(0o755)
+    monkeypatch.setenv("PATH", f"{tmp_path / 'bin'}:{os.environ['PATH']}")
+    converted(tmp_path / "a.tif", tmp_path / "a.jp2")
+    assert np.array_equal(jk.read(tmp_path / "a.jp2"), samples)

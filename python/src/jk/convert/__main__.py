@@ -18,8 +18,8 @@ ABOUT = """TIFF, PNG, PGM and PPM files to lossless JPEG 2000, and back.
     python -m jk.convert IN OUT                one file; the ending of OUT says what is written
     python -m jk.convert IN.. --into ARCHIVE   by `jk add`
 
-Taken are grey and RGB of 8 and 16 bits, PGM and PPM of 1 to 16, and black and white; an opacity goes to OUT-alpha, and
-pages to OUT-0001, OUT-0002 and so on. Samples are never narrowed: all else is refused, with the way out told. What is
+Taken are RGB of 8 and 16 bits, grey, PGM and PPM of 1 to 16, with an opacity or without, and palettes where --palette
+says so. Pages go to OUT-0001, OUT-0002 and so on. Samples are never narrowed: all else is refused, with the way out told. What is
 written is read back from the disk and compared, and IN is read a second time by another reader where there is one. No
 file is removed or overwritten: where OUT is there already with other bytes, it is refused."""
 AFTER = """A folder gets a table, jk-convert.csv, with a row for each file that was written: its digests, what was
@@ -39,6 +39,8 @@ def words() -> argparse.ArgumentParser:
                         help="refuse files of which something isn't carried that stands beside the samples")
     parser.add_argument("--geo", action="store_true",
                         help="carry where an image stands on the Earth: GeoTIFF's fields, in JP2 the box of GeoJP2")
+    parser.add_argument("--palette", choices=("rgb",),
+                        help="write the colours of images with a palette, as RGB, or RGB with opacity where tRNS has it")
     parser.add_argument("--workers", type=int, default=1, metavar="N", help="processes, 1 to 64, of a file each (1)")
     parser.add_argument("--into", metavar="ARCHIVE", help="add to an archive, in the place of OUT")
     parser.add_argument("--jk", metavar="PROGRAM", help="the program jk, for --into; without it the one on the PATH")
@@ -62,7 +64,7 @@ def words() -> argparse.ArgumentParser:
 
 def how_of(asked: argparse.Namespace) -> Dict[str, Any]:
     """What was asked for, as `convert` takes it."""
-    names = ("to", "strict", "geo", "into", "windows", "levels", "layers", "order", "reset", "causal", "segments", "sop",
+    names = ("to", "strict", "geo", "palette", "into", "windows", "levels", "layers", "order", "reset", "causal", "segments", "sop",
              "eph", "raw")
     how = {name: getattr(asked, name) for name in names if getattr(asked, name) not in (None, False)}
     if asked.no_colour:

@@ -10,7 +10,8 @@ import numpy as np
 from PIL import Image
 
 from .images import Picture, Refused, type_of
-from .tiff import DEFLATE, PLAIN, Form, by_tiffcp, directories_of, judge_parts
+from .tiff import by_tiffcp, directories_of, judge_parts
+from .tiff_form import DEFLATE, PLAIN, Form
 
 #: How Pillow's turning of an image by its orientation is undone.
 BACK = {
@@ -38,8 +39,9 @@ def agreed(path: str, kind: str, picture: Picture) -> Optional[str]:
 
 
 def _whole(picture: Picture) -> np.ndarray:
-    """Samples with their opacity, (height, width, samples of a pixel)."""
-    return np.atleast_3d(picture.whole())
+    """Samples with their opacity, (height, width, samples of a pixel); that of one colour, as tRNS tells it, no reader
+    gives."""
+    return np.atleast_3d(picture.samples if picture.is_by_colour else picture.whole())
 
 
 def _expect(is_so: bool, reader: str) -> str:
@@ -67,7 +69,7 @@ def _by_pillow(path: str, kind: str, picture: Picture) -> Optional[str]:
         samples = (1 << depth) - 1 - samples.astype(np.int32)
     if depth == 16 and theirs.dtype == np.uint8:
         return _expect(np.array_equal(theirs, samples >> 8), "Pillow, in the upper 8 bits,")
-    if depth < 8 and theirs.dtype == np.uint8:
+    if depth < 8 and theirs.dtype == np.uint8 and picture.palette is None:
         # Pillow spreads fewer bits over 8.
         samples = samples * np.uint8(255 // ((1 << depth) - 1))
     return _expect(np.array_equal(theirs, samples), "Pillow")
@@ -85,7 +87,7 @@ def _of_pillow(path: str, kind: str, picture: Picture) -> np.ndarray:
 
 def _by_tiffcp(path: str, form: Form, picture: Picture) -> Optional[str]:
     """What libtiff makes of an image, in one strip, where tifffile read the file itself."""
-    if form.compression not in PLAIN + DEFLATE or not form.is_for_tiffcp:
+    if form.compression not in PLAIN + DEFLATE or not form.is_for_tiffcp or form.bits not in (8, 16):
         return None
     with tempfile.TemporaryDirectory(prefix="jk-convert-") as folder:
         try:

@@ -45,6 +45,10 @@ class Picture:
     alpha: Optional[np.ndarray] = None
     #: What kind of opacity that is, as `jk.encode` takes it.
     opacity: str = "straight"
+    #: Whether all pixels of one colour are transparent, and no others.
+    is_by_colour: bool = False
+    #: Colours (entries, 3), or (entries, 4) with their opacity, of which the samples are the numbers.
+    palette: Optional[np.ndarray] = None
     #: Which image of its file it is, from 0 on.
     number: int = 0
 

@@ -70,7 +70,7 @@ def convert(
     """Converts TIFF, PNG, PGM and PPM files, or folders of them, to JP2 files, and these back.
 
     `target` is a file, whose ending says what is written, or a folder. `how`: `to` ("jp2", "tiff", "png" or "pnm"),
-    `strict`, `raw`, `geo`, `windows`, `into` (an archive, in the place of `target`), `program` (the program jk, for that), and
+    `strict`, `raw`, `geo`, `palette` ("rgb": colours in the place of a palette), `windows`, `into` (an archive, in the place of `target`), `program` (the program jk, for that), and
     the parameters of `jk.encode` but `depth` and `place`. A `table` is written for a folder, and for a file where it is
     named; with `resume` it is gone on with, and files are passed over of which the rows stand and hold. `workers` is a
     number of processes; with 1 there is no other than this one. CannotConvert: nothing was begun.
@@ -119,8 +119,11 @@ def planned(paths: Sequence[str], target: Optional[str], table: Optional[str], h
         raise CannotConvert(f"{to!r} isn't one of jp2, tiff, png and pnm")
     if into and not os.path.isdir(into):
         raise CannotConvert(f"{into}: there is no such folder")
-    asked = Asked(to, how.pop("strict", False), is_raw, how.pop("geo", False), into=into, program=how.pop("program", None) or "jk",
-                  parameters=_parameters(how))
+    palette = how.pop("palette", None) or ""
+    if palette not in ("", "rgb"):
+        raise CannotConvert(f"{palette!r} isn't rgb, as whose colours a palette is written")
+    asked = Asked(to, how.pop("strict", False), is_raw, how.pop("geo", False), palette, into=into,
+                  program=how.pop("program", None) or "jk", parameters=_parameters(how))
     if to != "jp2" and (is_raw or asked.parameters):
         raise CannotConvert(f"options say how JP2 is written, and {to} is to be")
     return Plan(asked, is_folder, target or "", table or "")

@@ -14,6 +14,7 @@ from . import jp2, png, pnm, tiff, tiff_writing
 from .again import agreed
 from .images import Picture, Refused, judge_file, kind_of, unchanged
 from .into import Adding
+from .palettes import expanded
 from .placing import Placing, digest_of
 from .rows import Row
 
@@ -40,6 +41,8 @@ class Asked:
     raw: bool = False
     #: Whether it is carried where an image stands on the Earth.
     geo: bool = False
+    #: What is written of an image with a palette: rgb, its colours; nothing where it is refused.
+    palette: str = ""
     #: The parameters of `jk.encode`.
     parameters: Dict[str, Any] = field(default_factory=dict)
     #: An archive that files are added to, by a program `jk`.
@@ -108,6 +111,7 @@ def converted(job: Job) -> List[Row]:
                 if picture.kept.geo and not asked.geo:
                     picture = replace(picture, kept=replace(picture.kept, geo=()), lost=(*picture.lost, GEO_LEFT))
                 reader = agreed(job.source, kind, picture)
+                picture = expanded(picture, asked.palette)
                 picture = replace(picture, notes=(*picture.notes, f"read again by {reader}" if reader else ALONE))
                 stem = f"{job.stem}-{number:04}" if count > 1 else job.stem
                 parts = [picture] if holds_opacity(job) else picture.apart()

@@ -3,6 +3,7 @@ from __future__ import annotations
 
 import struct
 import zlib
+from dataclasses import replace
 from typing import BinaryIO, Dict, Iterator, List, Tuple
 
 import numpy as np
@@ -14,8 +15,8 @@ from .png_text import carried, inflated
 
 SIGNATURE = b"\x89PNG\r\n\x1a\n"
 #: Samples of a pixel, by the colour type.
-CHANNELS = {0: 1, 2: 3, 4: 2, 6: 4}
-DEPTHS = {0: (1, 2, 4, 8, 16), 2: (8, 16), 4: (8, 16), 6: (8, 16)}
+CHANNELS = {0: 1, 2: 3, 3: 1, 4: 2, 6: 4}
+DEPTHS = {0: (1, 2, 4, 8, 16), 2: (8, 16), 3: (1, 2, 4, 8), 4: (8, 16), 6: (8, 16)}
 #: The passes of an interlaced image: first column and row, and the steps.
 PASSES = ((0, 0, 8, 8), (4, 0, 8, 8), (0, 4, 4, 8), (2, 0, 4, 4), (0, 2, 2, 4), (1, 0, 2, 2), (0, 1, 1, 2))
 XMP = b"XML:com.adobe.xmp"
@@ -78,9 +79,17 @@ def pictures(path: str) -> Iterator[Picture]:
     shapes = _shapes(width, height, methods[2])
     inflated = Inflated(sum(down * (1 + _row(across, depth, colour)) for across, down in shapes))
     others: List[Tuple[bytes, bytes]] = []
+    palette, key = b"", b""
     for kind, data in found:
         if kind == b"IDAT":
             inflated.take(data)
+        elif kind == b"PLTE" and colour == 3:
+            palette = data
+        elif kind == b"PLTE" and colour in (2, 6):
+            # Colours that a program may show the image with, where it has few.
+            others.append((kind, data))
+        elif kind == b"tRNS" and colour in (0, 2, 3):
+            key = data
         elif kind == b"acTL":
             raise Refused("the file is an animation of several images")
         elif kind[:1].isupper() and kind != b"IEND":
@@ -89,17 +98,40 @@ def pictures(path: str) -> Iterator[Picture]:
             others.append((kind, data))
     samples = _samples(inflated.whole(), shapes, (width, height, depth, colour, methods[2]))
     kept, lost = _kept(others)
-    alpha = None
-    if colour in (4, 6):
+    picture = Picture(samples, depth, kept, tuple(lost))
+    if colour == 3:
+        yield replace(picture, palette=_palette(palette, key))
+    elif colour in (4, 6):
         alpha = np.ascontiguousarray(samples[:, :, -1])
-        samples = samples[:, :, 0] if colour == 4 else samples[:, :, :3]
-    yield Picture(np.ascontiguousarray(samples), depth, kept, tuple(lost), alpha=alpha)
+        colours = samples[:, :, 0] if colour == 4 else samples[:, :, :3]
+        yield replace(picture, samples=np.ascontiguousarray(colours), alpha=alpha)
+    else:
+        yield _with_key(picture, key) if key else picture
+
+
+def _palette(data: bytes, opacities: bytes) -> np.ndarray:
+    """The colours of PLTE, with their opacities where tRNS has them."""
+    count = len(data) // 3
+    if not count or len(data) % 3 or len(opacities) > count:
+        raise Refused("the image has a palette whose colours aren't there")
+    colours = np.frombuffer(data, np.uint8).reshape(count, 3)
+    if not opacities:
+        return colours
+    return np.column_stack([colours, np.frombuffer(opacities.ljust(count, b"\xff"), np.uint8)])
+
+
+def _with_key(picture: Picture, key: bytes) -> Picture:
+    """An image in which all pixels of one colour are transparent, with an opacity that says so."""
+    samples = np.atleast_3d(picture.samples)
+    if len(key) != 2 * samples.shape[2]:
+        raise Refused(f"a chunk tRNS has {len(key)} bytes")
+    colour = np.frombuffer(key, ">u2")
+    greatest = (1 << picture.depth) - 1
+    alpha = np.where((samples == colour).all(axis=2), 0, greatest).astype(picture.samples.dtype)
+    return replace(picture, alpha=alpha, is_by_colour=True, notes=("tRNS as opacity",))
 
 
 def _judge(width: int, height: int, depth: int, colour: int, methods: List[int]) -> None:
-    if colour == 3:
-        raise Refused("the image has a palette: `convert IN.png -type TrueColor PNG24:OUT.png` of ImageMagick makes it "
-                      "RGB, with the same colours")
     if depth not in DEPTHS.get(colour, ()) or methods[:2] != [0, 0] or methods[2] > 1 or not width or not height:
         raise Refused("IHDR has a value that PNG doesn't allow")
     judge_size(width, height)
@@ -129,7 +161,7 @@ def _samples(data: np.ndarray, shapes: List[Tuple[int, int]], form: Tuple[int, i
         rows = unfiltered(data[at : at + down * size].reshape(down, size), max(1, depth * CHANNELS[colour] // 8))
         room[y::below, x::right] = _unpacked(rows, across, depth).reshape(down, across, CHANNELS[colour])
         at += down * size
-    return room[:, :, 0] if colour == 0 else room
+    return room[:, :, 0] if colour in (0, 3) else room
 
 
 def _unpacked(rows: np.ndarray, across: int, depth: int) -> np.ndarray:

@@ -9,115 +9,22 @@ import re
 import subprocess
 import tempfile
 import zlib
-from dataclasses import dataclass, replace
+from dataclasses import replace
 from typing import Iterator, List, Optional, Tuple
 
 import numpy as np
 import tifffile
 
 from .._beside import LAYOUT, Damaged, Directory, Stream, kept_of
-from .images import Picture, Refused, judge_size, type_of
+from . import palettes, tiff_bits
+from .images import Picture, Refused, type_of
+from .tiff_form import COLOURS, DEFLATE, DESCRIPTION, OPACITIES, PALETTE, PHOTOMETRIC, PLAIN, SUBFILE, Form, form_of
 
-WIDTH, HEIGHT, BITS, COMPRESSION, PHOTOMETRIC, SAMPLES, ROWS = 256, 257, 258, 259, 262, 277, 278
-PLANAR, PREDICTOR, TILE_WIDTH, TILE_HEIGHT, EXTRA, FORMAT, SUBFILE = 284, 317, 322, 323, 338, 339, 254
-STRIPS, STRIP_SIZES, TILES, TILE_SIZES, DEPTH, DESCRIPTION = 273, 279, 324, 325, 32997, 270
-PLAIN, DEFLATE = (1,), (8, 32946)
-#: What tiffcp unpacks: CCITT, LZW, PackBits.
-BY_TIFFCP = (2, 3, 4, 5, 32773)
-COMPRESSIONS = {6: "JPEG", 7: "JPEG", 34712: "JPEG 2000", 34925: "LZMA", 50000: "Zstandard", 50001: "WebP"}
-WHITE_IS_ZERO, BLACK_IS_ZERO, RGB = range(3)
-#: Kinds of opacity, by ExtraSamples.
-OPACITIES = {0: "unspecified", 1: "premultiplied", 2: "straight"}
-WAY_OUT = "ImageMagick's `convert IN.tif {} OUT.tif` makes RGB of it, with {}"
-OF_COLOUR = "the image is {}, and jk.convert takes grey and RGB: " + WAY_OUT.format("-colorspace sRGB", "other samples")
-#: Why samples of other photometric interpretations aren't taken.
-OTHERS = {
-    3: "the image has a palette: " + WAY_OUT.format("-type TrueColor", "the same colours"),
-    4: "the image is a mask of another one",
-    5: OF_COLOUR.format("CMYK"), 6: OF_COLOUR.format("YCbCr"),
-    **dict.fromkeys((8, 9, 10), OF_COLOUR.format("Lab")),
-}
 #: So many bytes a strip or tile may have too many.
 SPARE = 1 << 16
 #: What tiffcp says of directories, which are read here.
-HARMLESS = re.compile(r"TIFF(ReadDirectory|FetchNormalTag|FetchDirectory\w*|ReadCustomDirectory): Warning")
-
-
-@dataclass(frozen=True)
-class Form:
-    """How the samples of an image lie in its file."""
-
-    width: int
-    height: int
-    bits: int
-    samples: int
-    signed: bool
-    photometric: int
-    compression: int
-    planar: bool
-    #: Width and height of a tile, or of a strip.
-    part: Tuple[int, int]
-    is_tiled: bool
-    places: Tuple[int, ...]
-    sizes: Tuple[int, ...]
-    #: What the samples behind grey or RGB are; None where there is none.
-    extra: Optional[int]
-
-    @property
-    def colours(self) -> int:
-        return 3 if self.photometric == RGB else 1
-
-    @property
-    def is_for_tiffcp(self) -> bool:
-        """Whether tiffcp gives its samples: those of tiles in planes it mixes up where they have more than 8 bits."""
-        return not (self.planar and self.is_tiled and self.samples > 1 and self.bits > 8)
-
-
-def form_of(stream: Stream, directory: Directory) -> Form:
-    """The fields that tell of the samples, judged one by one."""
-    def numbers(tag: int, default: Tuple[int, ...] = ()) -> Tuple[int, ...]:
-        return tuple(stream.numbers(directory[tag])) if tag in directory else default
-
-    def one(tag: int, default: Optional[int] = None) -> int:
-        found = numbers(tag, () if default is None else (default,))
-        if not found or len(set(found)) > 1:
-            raise Refused(f"tag {tag} isn't one number" if found else f"tag {tag} isn't there")
-        return found[0]
-
-    width, height, photometric = one(WIDTH), one(HEIGHT), one(PHOTOMETRIC)
-    if photometric not in (WHITE_IS_ZERO, BLACK_IS_ZERO, RGB):
-        raise Refused(OTHERS.get(photometric, f"the photometric interpretation is {photometric}; "
-                                              "jk.convert takes grey and RGB"))
-    is_tiled = TILES in directory or TILE_WIDTH in directory
-    rows = min(one(ROWS, 0xFFFFFFFF), height)
-    places, sizes = (TILES, TILE_SIZES) if is_tiled else (STRIPS, STRIP_SIZES)
-    form = Form(
-        width=width, height=height, bits=one(BITS, 1), samples=one(SAMPLES, 1), signed=one(FORMAT, 1) == 2,
-        photometric=photometric, compression=one(COMPRESSION, 1), planar=one(PLANAR, 1) == 2,
-        part=(one(TILE_WIDTH), one(TILE_HEIGHT)) if is_tiled else (width, rows),
-        is_tiled=is_tiled, places=numbers(places), sizes=numbers(sizes), extra=(numbers(EXTRA) or (None,))[0],
-    )
-    _judge(form, one(FORMAT, 1), one(DEPTH, 1), one(PREDICTOR, 1))
-    return form
-
-
-def _judge(form: Form, sample_format: int, depth: int, predictor: int) -> None:
-    if sample_format not in (1, 2, 4):
-        kind = {3: "floating-point numbers", 5: "complex", 6: "complex"}.get(sample_format, f"format {sample_format}")
-        raise Refused(f"samples are {kind}, which JPEG 2000 of this kind hasn't: scale them to whole numbers first, or "
-                      "keep the TIFF")
-    if form.bits not in (1, 8, 16) or form.bits == 1 and (form.signed or form.samples > 1):
-        raise Refused(f"samples have {form.bits} bits; jk.convert takes 8 and 16, and 1 of grey")
-    if form.samples - form.colours not in (0, 1):
-        raise Refused(f"a pixel has {form.samples} samples, of which {form.colours} are its colour; jk.convert takes "
-                      "one more at most")
-    if form.compression not in PLAIN + DEFLATE + BY_TIFFCP:
-        name = COMPRESSIONS.get(form.compression, f"scheme {form.compression}")
-        raise Refused(f"it is compressed by {name}, which jk.convert doesn't read; of a lossy scheme the samples "
-                      "depend on the decoder")
-    if 0 in (form.width, form.height, *form.part) or depth != 1 or predictor not in (1, 2):
-        raise Refused("it has no sample, or a depth of its own, or an unknown predictor")
-    judge_size(form.width, form.height)
+HARMLESS = re.compile(r"TIFF(ReadDirectory|FetchNormalTag|FetchDirectory\w*|ReadCustomDirectory): Warning|"
+                      r"LZW\w+: Warning, Old-style LZW codes")
 
 
 def judge_parts(path: str, form: Form) -> None:
@@ -190,9 +97,22 @@ def _judge_stack(directories: List[Directory]) -> None:
 
 def _told(stream: Stream, directory: Directory, number: int, has_smaller: bool) -> Picture:
     kept, lost = kept_of(stream, directory)
+    palette = _palette(stream, directory)
+    if palette is not None:
+        lost.remove(f"tag {COLOURS}")
     if has_smaller:
         lost.append("smaller images of the same")
-    return Picture(np.empty(0), 0, kept, tuple(lost), number=number)
+    return Picture(np.empty(0), 0, kept, tuple(lost), number=number, palette=palette)
+
+
+def _palette(stream: Stream, directory: Directory) -> Optional[np.ndarray]:
+    """The colours of an image that has a palette."""
+    if PHOTOMETRIC not in directory or stream.numbers(directory[PHOTOMETRIC]) != [PALETTE]:
+        return None
+    words = np.array(stream.numbers(directory[COLOURS]) if COLOURS in directory else [], np.int64)
+    if not words.size or words.size % 3 or int(words.max()) > 65535:
+        raise Refused("the image has a palette whose colours aren't there")
+    return palettes.of_tiff(words)[0]
 
 
 def pictures(path: str) -> Iterator[Picture]:
@@ -249,7 +169,23 @@ class _Warnings(logging.Handler):
 
 
 def _picture(path: str, number: int, form: Form, told: Picture) -> Picture:
-    """An image whose samples tifffile reads."""
+    """An image whose samples tifffile reads, or those of other than 8 and 16 bits."""
+    if form.bits in (8, 16):
+        planes = _by_tifffile(path, number, form)
+    else:
+        with open(path, "rb") as opened:
+            planes = tiff_bits.samples_of(opened, form)[:, :, np.newaxis]
+    alpha, opacity, notes = None, "straight", list(told.notes)
+    if form.samples > form.colours:
+        alpha = np.ascontiguousarray(planes[:, :, -1])
+        opacity = OPACITIES.get(form.extra or 0, "unspecified")
+        notes.append(f"opacity: {opacity}")
+    samples = np.ascontiguousarray(planes[:, :, 0] if form.colours == 1 else planes[:, :, :3])
+    return replace(told, samples=samples, depth=form.bits, alpha=alpha, opacity=opacity, notes=tuple(notes))
+
+
+def _by_tifffile(path: str, number: int, form: Form) -> np.ndarray:
+    """Samples (height, width, samples of a pixel) of 8 and 16 bits."""
     warnings = _Warnings()
     logger = logging.getLogger("tifffile")
     logger.addHandler(warnings)
@@ -269,12 +205,4 @@ def _picture(path: str, number: int, form: Form, told: Picture) -> Picture:
     if samples.shape != shape or warnings.told:
         raise Refused(f"tifffile reads it otherwise: {(warnings.told or [str(samples.shape)])[0]}")
     planes = samples[:, 0, :, :, 0].transpose(1, 2, 0) if shape[0] > 1 else samples[0, 0]
-    planes = planes.astype(type_of(form.bits, form.signed), copy=False)
-    alpha, opacity, notes = None, "straight", list(told.notes)
-    if form.samples > form.colours:
-        alpha = np.ascontiguousarray(planes[:, :, -1])
-        opacity = OPACITIES.get(form.extra or 0, "unspecified")
-        notes.append(f"opacity: {opacity}")
-    colours = planes[:, :, 0] if form.colours == 1 else planes[:, :, :3]
-    return replace(told, samples=np.ascontiguousarray(colours), depth=form.bits, alpha=alpha, opacity=opacity,
-                   notes=tuple(notes))
+    return planes.astype(type_of(form.bits, form.signed), copy=False)
