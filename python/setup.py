@@ -1,6 +1,7 @@
 """The wheel of jk holds machine code, so it is named for its platform, and for every Python 3. The page of `jk.view` goes
 into it from the folder viewer/ beside this one, where that is there."""
 import os
+import re
 import shutil
 import sys
 
@@ -19,6 +20,19 @@ ABOVE = os.path.dirname(HERE)
 MODULES = [os.path.join(ABOVE, *it, "viewer", "jk.wasm") for it in ((), ("dist", "x86_64-linux"))]
 
 
+def platform_of(library, usual):
+    """The platform that a shared object runs on: each Linux whose glibc has the calls that it asks for (PEP 600), where it
+    needs no other library."""
+    with open(library, "rb") as file:
+        text = file.read()
+    needed = set(re.findall(rb"[\w+-]+\.so\.\d+", text)) - {b"libjk.so.0"}
+    versions = [int(it) for it in re.findall(rb"GLIBC_2\.(\d+)", text)]
+    if not usual.startswith("linux_") or needed != {b"libc.so.6"} or not versions:
+        return usual
+    # Older ones than those of manylinux2014 no installer asks for.
+    return f"manylinux_2_{max(17, *versions)}_{usual[len('linux_'):]}"
+
+
 class WithPage(build_py):
     def run(self):
         super().run()
@@ -35,7 +49,7 @@ class PlatformWheel(bdist_wheel):
         self.root_is_pure = False
 
     def get_tag(self):
-        return "py3", "none", super().get_tag()[2]
+        return "py3", "none", platform_of(LIBRARY, super().get_tag()[2])
 
 
 class BinaryDistribution(Distribution):

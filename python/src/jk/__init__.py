@@ -11,12 +11,13 @@
 """
 from ._extras import Extras
 from .archive import Archive, Listed
+from .encoding import encode, write
 from .faults import (
     BadBox, BadLength, BadMarker, BadParameters, BadValue, BadWindow, Changed, CodeOutOfInterval, Fault, Limit, Memory,
     Misfit, MissingPackets, NoSuchImage, PacketHeader, Shelf, Short, SurplusBytes, TooManyPasses, Truncated,
     Unsupported,
 )
-from .files import Info, cut, encode, extras, info, read, with_extras, write
+from .files import Info, cut, extras, info, read, with_extras
 
 __version__ = "0.3.2"
 __all__ = [

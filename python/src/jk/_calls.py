@@ -2,6 +2,7 @@
 import ctypes
 import os
 from ctypes import POINTER, c_size_t, c_uint8, c_uint32, c_void_p
+from typing import Any, Callable, cast
 
 VERSION = 302
 SHORT = 64
@@ -41,10 +42,10 @@ def _load() -> ctypes.CDLL:
 _library = _load()
 
 
-def _call(name, *kinds):
+def _call(name: str, *kinds: Any) -> Callable[..., int]:
     call = getattr(_library, name)
     call.argtypes, call.restype = kinds, c_uint32
-    return call
+    return cast(Callable[..., int], call)
 
 
 _LIST = (c_void_p, c_size_t)

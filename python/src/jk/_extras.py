@@ -84,6 +84,14 @@ class Extras:
         for name in ("resolution", "display"):
             object.__setattr__(self, name, _resolution(name, getattr(self, name)))
 
+    def inches(self) -> Optional[Inches]:
+        """The resolution of a row and of a column; None where there is none."""
+        told = self.resolution
+        if told is None:
+            return None
+        across, down = told if isinstance(told, tuple) else (told, told)
+        return Fraction(across), Fraction(down)
+
 
 def _resolution(name: str, given: Any) -> Union[None, Number, Tuple[Number, ...]]:
     """A resolution with numbers of Python's own, numpy's among them."""
@@ -168,11 +176,11 @@ def boxes_of(extras: Extras) -> bytes:
     exif = extras.exif
     if exif is not None and exif.startswith(b"Exif\0\0"):
         exif = exif[6:]
-    others = [(XMP, extras.xmp), (EXIF, exif), (IPTC, extras.iptc), *extras.uuids]
+    others: List[Tuple[Union[bytes, uuid.UUID], Optional[bytes]]] = [(XMP, extras.xmp), (EXIF, exif), (IPTC, extras.iptc), *extras.uuids]
     made = [box(b"colr", b"\2\0\0" + extras.profile)] if extras.profile is not None else []
     made.append(grids(*told))
     made += [box(b"xml ", text) for text in extras.xml]
-    made += [box(b"uuid", bytes(name) + contents) for name, contents in others if contents is not None]
+    made += [box(b"uuid", _uuid((name, contents))[0] + contents) for name, contents in others if contents is not None]
     return b"".join(made)
 
 

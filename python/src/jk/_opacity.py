@@ -43,7 +43,8 @@ def channels_of(file: Any) -> List[Channel]:
             count = int.from_bytes(contents[:2], "big")
             if len(contents) != 2 + 6 * count:
                 raise BadBox("the box cdef hasn't the length of its channels")
-            return [struct.unpack(">HHH", contents[at : at + 6]) for at in range(2, len(contents), 6)]
+            numbers = struct.unpack(f">{3 * count}H", contents[2:])
+            return list(zip(numbers[::3], numbers[1::3], numbers[2::3]))
     return []
 
 

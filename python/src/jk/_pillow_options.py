@@ -19,10 +19,10 @@ class TooSmall(OSError, ValueError):
 
 def exponent(side: Any, option: str) -> int:
     """The exponent of a power of two."""
-    side = operator.index(side)
+    side = int(operator.index(side))
     if side < 1 or side & (side - 1):
         raise ValueError(f"{option}: {side} isn't a power of two")
-    return side.bit_length() - 1
+    return int(side).bit_length() - 1
 
 
 def _layers(given: Any) -> int:

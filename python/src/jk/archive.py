@@ -8,6 +8,7 @@ from typing import Dict, List
 
 import numpy as np
 
+from ._types import Array
 from .faults import BadWindow, Fault, NoSuchImage, Shelf
 from .files import read
 
@@ -36,7 +37,7 @@ class Archive:
         refused: Dict[int, Fault] = {404: NoSuchImage(path), 400: BadWindow(path), 500: Shelf(path)}
         try:
             with urllib.request.urlopen(self.url + path, timeout=self.timeout) as reply:
-                return reply.read()
+                return bytes(reply.read())
         except urllib.error.HTTPError as error:
             if error.code in refused:
                 raise refused[error.code] from error
@@ -55,6 +56,6 @@ class Archive:
         """The file of a window of an image, `r` times halved."""
         return self.get(f"/images/{name}/window?x={x}&y={y}&w={w}&h={h}&r={r}")
 
-    def window(self, name: str, x: int, y: int, w: int, h: int, r: int = 0) -> np.ndarray:
+    def window(self, name: str, x: int, y: int, w: int, h: int, r: int = 0) -> Array:
         """The samples of a window of an image, `r` times halved: what `read` gives of the stored file."""
         return read(self.cut(name, x, y, w, h, r), reduce=r, window=(x, y, w, h))

@@ -1,7 +1,7 @@
 """What calls refuse: an exception for each fault of `jk faults`, and two for lists that don't fit."""
 from __future__ import annotations
 
-from typing import Dict, Type
+from typing import Callable, Dict, Tuple, Type
 
 
 class Fault(ValueError):
@@ -18,7 +18,12 @@ class Fault(ValueError):
         return type(self).__name__
 
     def __init__(self, cause: str = "") -> None:
+        #: What was told in the place of `cause`.
+        self.told = cause
         super().__init__(f"F{self.number} {self.name}: {cause or self.cause}")
+
+    def __reduce__(self) -> Tuple[Callable[[int, str], "Fault"], Tuple[int, str]]:
+        return of_number, (self.number, self.told)
 
 
 class Memory(Fault, MemoryError):
@@ -117,7 +122,12 @@ class Misfit(Fault):
 BY_NUMBER: Dict[int, Type[Fault]] = {kind.number: kind for kind in Fault.__subclasses__()}
 
 
+def of_number(number: int, cause: str = "") -> Fault:
+    """The exception of a number."""
+    return BY_NUMBER.get(number, Fault)(cause)
+
+
 def check(result: int) -> None:
     """Raises the exception of what a call answered, unless it was done."""
     if result:
-        raise BY_NUMBER.get(result, Fault)()
+        raise of_number(result)

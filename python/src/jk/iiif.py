@@ -22,10 +22,16 @@ from typing import Any, Callable, Dict, Iterable, List, Tuple
 from urllib.parse import quote, unquote
 
 import numpy as np
-from PIL import Image
 
+from ._needs import raise_told
+from ._types import Array
 from .archive import Archive, Listed
 from .faults import BadWindow, Fault, NoSuchImage
+
+try:
+    from PIL import Image
+except ImportError as error:
+    raise_told(__name__, error)
 
 CONTEXT = "http://iiif.io/api/image/3/context.json"
 PROFILE = "http://iiif.io/api/image/3/level1.json"
@@ -175,7 +181,7 @@ def reduction(asked: Asked) -> int:
     return reduce
 
 
-def _eight_bits(samples: np.ndarray, depth: int) -> np.ndarray:
+def _eight_bits(samples: Array, depth: int) -> Array:
     if depth == 8:
         return samples
     return (samples.astype(np.uint32) * 255 // ((1 << depth) - 1)).astype(np.uint8)

@@ -17,13 +17,20 @@ from fractions import Fraction
 from typing import IO, Any, Dict, Optional, Type, Union
 
 import numpy as np
-from PIL import Image, ImageFile, Jpeg2KImagePlugin, UnidentifiedImageError
 
+from ._needs import raise_told
 from . import _pillow_options
 from ._colour import colours_of
 from ._extras import METRE, Extras, nearest, ratio
-from .faults import BadBox, BadParameters, Fault, Truncated, Unsupported
-from .files import Info, encode, extras, info, read, with_extras
+from ._types import Array
+from .encoding import encode
+from .faults import BadBox, BadParameters, Fault, Truncated, Unsupported, of_number
+from .files import Info, extras, info, read, with_extras
+
+try:
+    from PIL import Image, ImageFile, Jpeg2KImagePlugin, UnidentifiedImageError
+except ImportError as error:
+    raise_told(__name__, error)
 
 FORMAT = "JPEG2000"
 #: Another name of this format, and the name of Pillow's own.
@@ -50,14 +57,20 @@ class NoMode(UnidentifiedImageError, ValueError):
 _AS_PILLOWS: Dict[Type[Fault], Type[Fault]] = {}
 
 
+def _of_number(number: int, cause: str) -> Fault:
+    return as_pillows(of_number(number, cause))
+
+
 def as_pillows(fault: Fault) -> Fault:
     """A fault that is an OSError too, since Pillow's callers wait for one."""
     kind = type(fault)
     if kind not in _AS_PILLOWS:
-        _AS_PILLOWS[kind] = type(kind.__name__, (kind, UnidentifiedImageError), {"__module__": kind.__module__})
-    made = _AS_PILLOWS[kind]()
-    made.args = fault.args
-    return made
+        def reduced(self: Fault) -> Any:
+            return _of_number, (self.number, self.told)
+
+        fields = {"__module__": kind.__module__, "__reduce__": reduced}
+        _AS_PILLOWS[kind] = type(kind.__name__, (kind, UnidentifiedImageError), fields)
+    return _AS_PILLOWS[kind](fault.told)
 
 
 def mode_of(told: Info, space: str = "") -> str:
@@ -164,8 +177,9 @@ def beside(data: bytes) -> Dict[str, Any]:
         warnings.warn(f"what stands beside the samples can't be read: {why}", stacklevel=4)
         return {}
     told: Dict[str, Any] = {"icc_profile": found.profile or found.any_profile, "xmp": found.xmp}
-    if found.resolution is not None:
-        told["dpi"] = tuple(float(it) for it in found.resolution)
+    inches = found.inches()
+    if inches is not None:
+        told["dpi"] = tuple(float(it) for it in inches)
     if found.exif is not None:
         told["exif"] = b"Exif\0\0" + found.exif
     return {name: value for name, value in told.items() if value is not None}
@@ -249,14 +263,14 @@ def save(image: Image.Image, out: IO[bytes], name: Union[str, bytes]) -> None:
     out.write(_given(encode(samples, **asked), given, image))
 
 
-def _signed(samples: np.ndarray, depth: int) -> np.ndarray:
+def _signed(samples: Array, depth: int) -> Array:
     """The same numbers as signed samples."""
     if int(samples.max(initial=0)) >= 1 << (depth - 1):
         raise ValueError(f"signed: samples of {depth} bits are at most {(1 << (depth - 1)) - 1}")
     return samples.astype(f"i{samples.dtype.itemsize}")
 
 
-def depth_for(samples: np.ndarray, image: Image.Image) -> int:
+def depth_for(samples: Array, image: Image.Image) -> int:
     """The depth that was told of an image if its samples fit into it, and else that of its mode."""
     whole = 8 * samples.dtype.itemsize
     told = image.info.get("depth")

@@ -20,6 +20,7 @@ from pydicom.dataset import Dataset
 from pydicom.pixel_data_handlers.util import pixel_dtype
 from pydicom.uid import UID
 
+from ._types import Array
 from .dicom.fragments import Fragments
 from .dicom.pixels import pixels_of, value
 from .dicom.reading import CODED, samples_of
@@ -48,7 +49,7 @@ def should_change_PhotometricInterpretation_to_RGB(ds: Dataset) -> bool:
     return False
 
 
-def get_pixeldata(ds: Dataset) -> np.ndarray:
+def get_pixeldata(ds: Dataset) -> Array:
     """The samples of all frames, pixel by pixel, in one row."""
     pixels = pixels_of(ds)
     fragments = Fragments(io.BytesIO(ds.PixelData), 0, is_delimited=False)

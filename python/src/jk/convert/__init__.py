@@ -12,9 +12,20 @@ stands beside the samples. It needs Debian's python3-tifffile and python3-pil, a
 >>> counts = convert.convert("scans", "coded", workers=4)
 >>> assert not counts.refused
 """
-from .images import Refused
-from .many import CannotConvert, Counts, convert
-from .one import Done
-from .rows import Row, Table
+from typing import TYPE_CHECKING
+
+if TYPE_CHECKING:
+    from .images import Refused
+    from .many import CannotConvert, Counts, convert
+    from .one import Done
+    from .rows import Row, Table
 
 __all__ = ["CannotConvert", "Counts", "Done", "Refused", "Row", "Table", "convert"]
+#: Where names stand, which are imported when they are asked for, so that it can be told what to install.
+_PLACES = {"Refused": "images", "CannotConvert": "many", "Counts": "many", "convert": "many", "Done": "one", "Row": "rows",
+           "Table": "rows"}
+
+
+def __getattr__(name: str) -> object:
+    from .._needs import found
+    return found(__name__, name, _PLACES)

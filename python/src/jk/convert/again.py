@@ -9,6 +9,7 @@ from typing import Optional
 import numpy as np
 from PIL import Image
 
+from .._types import Array
 from .images import Picture, Refused, type_of
 from .tiff import by_tiffcp, directories_of, judge_parts
 from .tiff_form import DEFLATE, PLAIN, Form
@@ -38,7 +39,7 @@ def agreed(path: str, kind: str, picture: Picture) -> Optional[str]:
     return _by_tiffcp(path, form, picture) if form is not None and reader is None else reader
 
 
-def _whole(picture: Picture) -> np.ndarray:
+def _whole(picture: Picture) -> Array:
     """Samples with their opacity, (height, width, samples of a pixel); that of one colour, as tRNS tells it, no reader
     gives."""
     return np.atleast_3d(picture.samples if picture.is_by_colour else picture.whole())
@@ -75,7 +76,7 @@ def _by_pillow(path: str, kind: str, picture: Picture) -> Optional[str]:
     return _expect(np.array_equal(theirs, samples), "Pillow")
 
 
-def _of_pillow(path: str, kind: str, picture: Picture) -> np.ndarray:
+def _of_pillow(path: str, kind: str, picture: Picture) -> Array:
     with Image.open(path) as image:
         if kind == "tiff":
             image.seek(picture.number)

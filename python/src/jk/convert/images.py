@@ -5,11 +5,12 @@ import contextlib
 import os
 import stat
 from dataclasses import dataclass, replace
-from typing import Iterator, List, Optional, Tuple
+from typing import Any, Iterator, List, Optional, Tuple
 
 import numpy as np
 
 from .._beside import Kept
+from .._types import Array
 
 #: What a file is, by the bytes that it begins with.
 BEGINNINGS = (
@@ -34,7 +35,7 @@ class Picture:
     """An image, and what is known of it."""
 
     #: (height, width), or (height, width, 3).
-    samples: np.ndarray
+    samples: Array
     #: Bits of a sample, the sign counted.
     depth: int
     kept: Kept = Kept()
@@ -42,17 +43,17 @@ class Picture:
     lost: Tuple[str, ...] = ()
     notes: Tuple[str, ...] = ()
     #: Opacity, (height, width), of the depth of the samples.
-    alpha: Optional[np.ndarray] = None
+    alpha: Optional[Array] = None
     #: What kind of opacity that is, as `jk.encode` takes it.
     opacity: str = "straight"
     #: Whether all pixels of one colour are transparent, and no others.
     is_by_colour: bool = False
     #: Colours (entries, 3), or (entries, 4) with their opacity, of which the samples are the numbers.
-    palette: Optional[np.ndarray] = None
+    palette: Optional[Array] = None
     #: Which image of its file it is, from 0 on.
     number: int = 0
 
-    def whole(self) -> np.ndarray:
+    def whole(self) -> Array:
         """Samples with their opacity behind them."""
         return self.samples if self.alpha is None else np.dstack([self.samples, self.alpha])
 
@@ -90,7 +91,7 @@ def judge_file(path: str) -> None:
         raise Refused(f"this is {kinds.get(stat.S_IFMT(mode), 'something else')}, and no file")
 
 
-def type_of(depth: int, signed: bool = False) -> np.dtype:
+def type_of(depth: int, signed: bool = False) -> np.dtype[Any]:
     """The type of samples of so many bits."""
     return np.dtype(f"{'i' if signed else 'u'}{1 if depth <= 8 else 2}")
 

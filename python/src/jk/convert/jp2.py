@@ -11,8 +11,10 @@ from .. import _beside, _extras
 from .._beside import Damaged, Kept, Resolution
 from .._colour import ANY, RESTRICTED, VENDOR, Colour, colours_of
 from .._opacity import channels_of, order_of
+from .._types import Array
+from ..encoding import encode
 from ..faults import BadParameters, Fault
-from ..files import encode, extras, info, read, with_extras
+from ..files import extras, info, read, with_extras
 from .images import Picture, Refused
 
 #: What isn't carried of what is no ICC profile for the image's components.
@@ -43,7 +45,7 @@ def pictures(path: str) -> Iterator[Picture]:
     yield Picture(image, told.depth, kept, tuple(lost), alpha=alpha, opacity=opacity or "straight")
 
 
-def beside(data: np.ndarray) -> Tuple[Kept, List[str]]:
+def beside(data: Array) -> Tuple[Kept, List[str]]:
     """What a file has beside its samples, and by name what of it isn't in that value."""
     colours = colours_of(data)
     judge_colour(colours)
@@ -51,7 +53,7 @@ def beside(data: np.ndarray) -> Tuple[Kept, List[str]]:
         found = extras(data)
     except Fault as why:
         return Kept(), [f"what stands there: {why}"]
-    lost = [] if found.space in SPACES else [f"colour space {found.space.partition('=')[2]}"]
+    lost = [] if found.space in SPACES else [f"colour space {(found.space or '').partition('=')[2]}"]
     lost += _colours(colours, found)
     kept = Kept()
     if found.exif is not None:
@@ -60,8 +62,9 @@ def beside(data: np.ndarray) -> Tuple[Kept, List[str]]:
             lost += of_exif
         except Damaged:
             lost.append("EXIF that can't be read")
-    if found.resolution is not None and not _is_rounded(kept.resolution, found.resolution):
-        kept = replace(kept, resolution=_of_inches(found.resolution))
+    inches = found.inches()
+    if inches is not None and not _is_rounded(kept.resolution, inches):
+        kept = replace(kept, resolution=_of_inches(inches))
     kept = replace(kept, profile=found.profile or found.any_profile or kept.profile, xmp=found.xmp or kept.xmp,
                    iptc=found.iptc or kept.iptc)
     boxes = list(found.uuids)

@@ -3,10 +3,12 @@ from __future__ import annotations
 
 import contextlib
 import os
+from concurrent.futures import Executor
 from dataclasses import dataclass, field
 from typing import Any, Callable, Dict, Iterator, List, Optional, Sequence, Set, Tuple, Union
 
 from .._placing import remove_parts
+from .executors import by_executor
 from .images import ENDINGS
 from .into import name_for
 from .one import Asked, Done, Job
@@ -15,8 +17,6 @@ from .workers import Stop, each_done
 
 #: The name of a table where none is told.
 TABLE = "jk-convert.csv"
-PARAMETERS = ("levels", "layers", "order", "tile", "block", "precincts", "colour", "sop", "eph", "reset", "causal",
-              "segments")
 Path = Union[str, "os.PathLike[str]"]
 #: Told of each file that is done, how many are, and of how many.
 Tell = Callable[[Done, int, int], None]
@@ -65,20 +65,37 @@ class Plan:
 
 def convert(
     sources: Union[Path, Sequence[Path]], target: Optional[Path] = None, table: Optional[Path] = None,
-    resume: bool = False, workers: int = 1, tell: Optional[Tell] = None, **how: Any,
+    resume: bool = False, workers: int = 1, tell: Optional[Tell] = None, *, executor: Optional[Executor] = None,
+    to: Optional[str] = None, strict: bool = False, raw: bool = False, geo: bool = False, palette: Optional[str] = None,
+    into: Optional[Path] = None, program: Optional[str] = None, windows: bool = False, levels: Optional[int] = None,
+    layers: Optional[int] = None, order: Optional[str] = None, tile: Optional[Tuple[int, int]] = None,
+    block: Optional[Tuple[int, int]] = None, precincts: Optional[Sequence[Tuple[int, int]]] = None,
+    colour: Optional[bool] = None, sop: Optional[bool] = None, eph: Optional[bool] = None, reset: Optional[bool] = None,
+    causal: Optional[bool] = None, segments: Optional[bool] = None,
 ) -> Counts:
     """Converts TIFF, PNG, PGM and PPM files, or folders of them, to JP2 files, and these back.
 
-    `target` is a file, whose ending says what is written, or a folder. `how`: `to` ("jp2", "tiff", "png" or "pnm"),
-    `strict`, `raw`, `geo`, `palette` ("rgb": colours in the place of a palette), `windows`, `into` (an archive, in the place of `target`), `program` (the program jk, for that), and
-    the parameters of `jk.encode` but `depth` and `place`. A `table` is written for a folder, and for a file where it is
-    named; with `resume` it is gone on with, and files are passed over of which the rows stand and hold. `workers` is a
-    number of processes; with 1 there is no other than this one. CannotConvert: nothing was begun.
+    `target` is a file, whose ending says what is written, or a folder, of which `to` says it ("jp2", "tiff", "png" or
+    "pnm"). `palette` "rgb" writes colours in the place of a palette; `into` is an archive, in the place of `target`, and
+    `program` the program jk, for that; the others are parameters of `jk.encode`. A `table` is written for a folder, and for
+    a file where it is named; with `resume` it is gone on with, and files are passed over of which the rows stand and hold.
+    `workers` is a number of processes; with 1 there is no other than this one. With an `executor`, any of
+    `concurrent.futures` or that of a Dask client, that converts the files, on this machine or on others that have the
+    folders under the same paths. CannotConvert: nothing was begun.
     """
     if not 1 <= workers <= 64:
         raise CannotConvert(f"{workers} workers aren't from 1 to 64")
+    parameters = {"levels": levels, "layers": layers, "order": order, "tile": tile, "block": block, "precincts": precincts,
+                  "colour": colour, "sop": sop, "eph": eph, "reset": reset, "causal": causal, "segments": segments}
+    asked = {name: it for name, it in parameters.items() if it is not None}
     paths = [os.fspath(it) for it in ([sources] if isinstance(sources, (str, os.PathLike)) else sources)]
-    plan = planned(paths, target and os.fspath(target), table and os.fspath(table), how)
+    places = [None if it is None else os.fspath(it) for it in (target, table, into)]
+    if executor is not None:
+        # Processes of others begin in other folders.
+        paths = [whole(it) for it in paths]
+        places = [None if it is None else whole(it) for it in places]
+    plan = planned(paths, places[0], places[1], to=to, strict=strict, raw=raw, geo=geo, palette=palette or "",
+                   into=places[2] or "", program=program or "jk", windows=windows, parameters=asked)
     with Stop() as stop, contextlib.ExitStack() as opened:
         run = Run(plan, tell)
         run.list(paths)
@@ -87,20 +104,26 @@ def convert(
             opened.callback(run.rows.close)
         elif resume:
             raise CannotConvert("there is no table to go on with: --csv FILE names it")
-        each = opened.enter_context(contextlib.closing(each_done(run.jobs(), workers, stop)))
-        for found in each:
+        way = each_done(run.jobs(), workers, stop) if executor is None else by_executor(run.jobs(), executor, stop)
+        for found in opened.enter_context(contextlib.closing(way)):
             run.take(found)
         run.counts.is_stopped = stop.is_asked and run.counts.done < len(run.files)
     return run.counts
 
 
-def planned(paths: Sequence[str], target: Optional[str], table: Optional[str], how: Dict[str, Any]) -> Plan:
+def whole(path: str) -> str:
+    """A path from the root; one that ends as a folder's does stays so."""
+    return os.path.abspath(path) + (os.sep if path.endswith(os.sep) and os.path.abspath(path) != os.sep else "")
+
+
+def planned(
+    paths: Sequence[str], target: Optional[str], table: Optional[str], *, to: Optional[str], strict: bool, raw: bool,
+    geo: bool, palette: str, into: str, program: str, windows: bool, parameters: Dict[str, Any],
+) -> Plan:
     """Where files go, and how they are converted."""
-    into = os.fspath(how.pop("into", None) or "")
     is_folder = bool(into) or len(paths) != 1 or os.path.isdir(paths[0]) or target is not None and (
         os.path.isdir(target) or target.endswith(os.sep))
-    to, is_raw = how.pop("to", None), how.pop("raw", False)
-    if into and (target or is_raw or to not in (None, "jp2")):
+    if into and (target or raw or to not in (None, "jp2")):
         raise CannotConvert("what goes into an archive is JP2, and has no other OUT")
     if not into and not target:
         raise CannotConvert("there is no OUT")
@@ -109,34 +132,30 @@ def planned(paths: Sequence[str], target: Optional[str], table: Optional[str], h
         to = to or "jp2"
         table = table or os.path.join(target, TABLE)
     else:
-        of_ending = ENDINGS.get(os.path.splitext(target or "")[1].lower())
-        if of_ending is None or to not in (None, of_ending):
-            raise CannotConvert(f"{target}: its ending isn't that of {to or 'tiff, png, pnm or jp2'}")
-        if is_raw and (target or "").lower().endswith(".jp2"):
-            raise CannotConvert(f"{target}: a bare codestream is no JP2 file, and ends with .j2k")
-        to = of_ending
+        to = _of_ending(target or "", to, raw)
     if to not in ("jp2", "tiff", "png", "pnm"):
         raise CannotConvert(f"{to!r} isn't one of jp2, tiff, png and pnm")
     if into and not os.path.isdir(into):
         raise CannotConvert(f"{into}: there is no such folder")
-    palette = how.pop("palette", None) or ""
     if palette not in ("", "rgb"):
         raise CannotConvert(f"{palette!r} isn't rgb, as whose colours a palette is written")
-    asked = Asked(to, how.pop("strict", False), is_raw, how.pop("geo", False), palette, into=into,
-                  program=how.pop("program", None) or "jk", parameters=_parameters(how))
-    if to != "jp2" and (is_raw or asked.parameters):
+    if windows:
+        levels = parameters.get("levels", 5)
+        parameters = {"order": "RPCL", "layers": 8, "precincts": [(7, 7)] * (levels + 1), **parameters}
+    if to != "jp2" and (raw or parameters):
         raise CannotConvert(f"options say how JP2 is written, and {to} is to be")
+    asked = Asked(to, strict, raw, geo, palette, into=into, program=program, parameters=parameters)
     return Plan(asked, is_folder, target or "", table or "")
 
 
-def _parameters(how: Dict[str, Any]) -> Dict[str, Any]:
-    """The parameters of `jk.encode`; `windows` stands for those by which windows are small."""
-    if how.pop("windows", False):
-        how = {"order": "RPCL", "layers": 8, "precincts": [(7, 7)] * (how.get("levels", 5) + 1), **how}
-    for name in how:
-        if name not in PARAMETERS:
-            raise TypeError(f"there is no parameter {name!r}")
-    return how
+def _of_ending(target: str, to: Optional[str], raw: bool) -> str:
+    """What is written to a file, by its ending."""
+    of_ending = ENDINGS.get(os.path.splitext(target)[1].lower())
+    if of_ending is None or to not in (None, of_ending):
+        raise CannotConvert(f"{target}: its ending isn't that of {to or 'tiff, png, pnm or jp2'}")
+    if raw and target.lower().endswith(".jp2"):
+        raise CannotConvert(f"{target}: a bare codestream is no JP2 file, and ends with .j2k")
+    return of_ending
 
 
 def _table(plan: Plan, is_resumed: bool) -> Table:

@@ -9,6 +9,7 @@ from typing import Any, BinaryIO, Callable, Dict, Iterator, List, Tuple, Union
 
 import numpy as np
 
+from .._types import Array
 from ..faults import Fault
 from . import jp2, png, pnm, tiff, tiff_writing
 from .again import agreed
@@ -102,7 +103,8 @@ def converted(job: Job) -> List[Row]:
     """Converts a file. Its rows are to be written when its files are in their places, as they are then."""
     begun, asked = time.monotonic(), job.asked
     made: List[Tuple[str, Dict[str, str]]] = []
-    with Adding(asked.into, asked.program, asked.parameters) if asked.into else Placing() as placing:
+    places: Union[Placing, Adding] = Adding(asked.into, asked.program, asked.parameters) if asked.into else Placing()
+    with places as placing:
         with unchanged(job.source):
             size, kind = os.path.getsize(job.source), kind_of(job.source)
             judge_kinds(kind, asked.to)
@@ -194,7 +196,7 @@ def image_of(picture: Picture) -> str:
     return f"{width} {height} {(components or [1])[0]} {picture.depth}"
 
 
-def digest_of_samples(samples: np.ndarray) -> str:
+def digest_of_samples(samples: Array) -> str:
     """SHA-256 of samples, as a row tells it."""
     little = samples.astype(samples.dtype.newbyteorder("<"), copy=False)
     return hashlib.sha256(np.ascontiguousarray(little).data).hexdigest()

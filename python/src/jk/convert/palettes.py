@@ -6,12 +6,13 @@ from typing import Tuple
 
 import numpy as np
 
+from .._types import Array
 from .images import Picture, Refused
 
 WAY_OUT = "the image has a palette: with --palette rgb its colours are written, and not the palette"
 
 
-def of_tiff(values: np.ndarray) -> Tuple[np.ndarray, int]:
+def of_tiff(values: Array) -> Tuple[Array, int]:
     """The colours (entries, 3) of ColorMap, and how many bits they have: 8 where its words repeat a byte, have a lower byte
     of 0 all of them, or are less than 256 all of them, as writers have it."""
     words = values.reshape(3, -1).T

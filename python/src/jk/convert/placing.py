@@ -48,7 +48,7 @@ class Placing:
         return self
 
     def __exit__(self, *_: object) -> None:
-        for part, _ in self.parts:
+        for part, _out in self.parts:
             part.end()
 
 

@@ -9,6 +9,7 @@ from typing import BinaryIO, Dict, Iterator, List, Tuple
 import numpy as np
 
 from .._beside import Damaged, Kept, Resolution, exif_of, kept_of_exif
+from .._types import Array
 from .images import Picture, Refused, judge_size, type_of
 from .png_filters import filtered, unfiltered
 from .png_text import carried, inflated
@@ -62,7 +63,7 @@ class Inflated:
         self.room[self.at : self.at + len(plain)] = np.frombuffer(plain, np.uint8)
         self.at += len(plain)
 
-    def whole(self) -> np.ndarray:
+    def whole(self) -> Array:
         if self.at != self.room.size or not self.inflating.eof:
             raise Refused("there are fewer samples than the image has")
         return self.room
@@ -109,7 +110,7 @@ def pictures(path: str) -> Iterator[Picture]:
         yield _with_key(picture, key) if key else picture
 
 
-def _palette(data: bytes, opacities: bytes) -> np.ndarray:
+def _palette(data: bytes, opacities: bytes) -> Array:
     """The colours of PLTE, with their opacities where tRNS has them."""
     count = len(data) // 3
     if not count or len(data) % 3 or len(opacities) > count:
@@ -150,7 +151,7 @@ def _shapes(width: int, height: int, is_interlaced: int) -> List[Tuple[int, int]
             for x, y, across, down in PASSES]
 
 
-def _samples(data: np.ndarray, shapes: List[Tuple[int, int]], form: Tuple[int, int, int, int, int]) -> np.ndarray:
+def _samples(data: Array, shapes: List[Tuple[int, int]], form: Tuple[int, int, int, int, int]) -> Array:
     width, height, depth, colour, is_interlaced = form
     room = np.empty((height, width, CHANNELS[colour]), type_of(depth))
     at = 0
@@ -164,7 +165,7 @@ def _samples(data: np.ndarray, shapes: List[Tuple[int, int]], form: Tuple[int, i
     return room[:, :, 0] if colour in (0, 3) else room
 
 
-def _unpacked(rows: np.ndarray, across: int, depth: int) -> np.ndarray:
+def _unpacked(rows: Array, across: int, depth: int) -> Array:
     """Rows of samples of rows of bytes."""
     if depth == 16:
         return rows.view(">u2")
@@ -268,7 +269,7 @@ def _put(out: BinaryIO, kind: bytes, data: bytes) -> None:
     out.write(struct.pack(">L", len(data)) + kind + data + struct.pack(">L", zlib.crc32(data, zlib.crc32(kind))))
 
 
-def _packed(samples: np.ndarray, depth: int) -> np.ndarray:
+def _packed(samples: Array, depth: int) -> Array:
     """Rows of bytes of rows of samples."""
     if depth >= 8:
         return samples.astype(">u2" if depth == 16 else np.uint8).reshape(len(samples), -1).view(np.uint8)

@@ -3,6 +3,7 @@ from __future__ import annotations
 
 import numpy as np
 
+from .._types import Array
 from .images import Refused
 
 NONE, SUB, UP, AVERAGE, PAETH = range(5)
@@ -12,7 +13,7 @@ ROWS = 1024
 EACH = 8
 
 
-def unfiltered(data: np.ndarray, step: int) -> np.ndarray:
+def unfiltered(data: Array, step: int) -> Array:
     """The bytes of rows, of which each begins with its filter; a pixel has `step` bytes."""
     kinds, rows = data[:, 0], data[:, 1:]
     if int(kinds.max(initial=0)) > PAETH:
@@ -32,7 +33,7 @@ def unfiltered(data: np.ndarray, step: int) -> np.ndarray:
     return np.ascontiguousarray(room[1:, step : step + rows.shape[1]])
 
 
-def _simple(rows: np.ndarray, kind: int, step: int) -> None:
+def _simple(rows: Array, kind: int, step: int) -> None:
     """The second of two rows, by a filter that needs one neighbour."""
     if kind == UP:
         rows[1] += rows[0]
@@ -41,7 +42,7 @@ def _simple(rows: np.ndarray, kind: int, step: int) -> None:
         np.cumsum(pixels, axis=0, dtype=np.uint8, out=pixels)
 
 
-def _by_diagonals(room: np.ndarray, kinds: np.ndarray) -> None:
+def _by_diagonals(room: Array, kinds: Array) -> None:
     """Rows behind a first one that is done, pixels behind a first column of zeros. Pixels of a diagonal, from the lower
     left to the upper right, depend on those of the two diagonals before it alone."""
     rows, width = room.shape[0] - 1, room.shape[1] - 1
@@ -60,7 +61,7 @@ def _by_diagonals(room: np.ndarray, kinds: np.ndarray) -> None:
         here += predicted(left, above, corner, chosen)
 
 
-def predicted(left: np.ndarray, above: np.ndarray, corner: np.ndarray, chosen: list) -> np.ndarray:
+def predicted(left: Array, above: Array, corner: Array, chosen: list) -> Array:
     """What each filter foretells of bytes."""
     to_left, to_above = np.abs(above - corner), np.abs(left - corner)
     to_corner = np.abs(left + above - 2 * corner)
@@ -71,7 +72,7 @@ def predicted(left: np.ndarray, above: np.ndarray, corner: np.ndarray, chosen: l
     return found.astype(np.uint8)
 
 
-def filtered(rows: np.ndarray, above: np.ndarray, step: int) -> bytes:
+def filtered(rows: Array, above: Array, step: int) -> bytes:
     """Rows behind a filter, one for all of them, by which the bytes of some are nearest to 0; `above` stands before the
     first."""
     over = np.vstack([above[np.newaxis], rows[:-1]])
@@ -83,12 +84,12 @@ def filtered(rows: np.ndarray, above: np.ndarray, step: int) -> bytes:
     return out.tobytes()
 
 
-def _far(made: np.ndarray) -> int:
+def _far(made: Array) -> int:
     """How far bytes are from 0 in sum, as numbers with a sign."""
     return int(np.minimum(made, 0 - made).sum(dtype=np.int64))
 
 
-def foretold(rows: np.ndarray, over: np.ndarray, kind: int, step: int) -> np.ndarray:
+def foretold(rows: Array, over: Array, kind: int, step: int) -> Array:
     """What a filter foretells of the bytes of rows, of which each has one over it."""
     left = np.pad(rows, ((0, 0), (step, 0)))[:, : rows.shape[1]]
     if kind <= UP:

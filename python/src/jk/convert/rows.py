@@ -109,4 +109,6 @@ class Table:
             raise
 
     def close(self) -> None:
+        # Processes that were begun meanwhile may have the file open too.
+        fcntl.flock(self.file, fcntl.LOCK_UN)
         os.close(self.file)

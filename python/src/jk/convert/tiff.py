@@ -8,6 +8,7 @@ import os
 import re
 import subprocess
 import tempfile
+import threading
 import zlib
 from dataclasses import replace
 from typing import Iterator, List, Optional, Tuple
@@ -16,6 +17,7 @@ import numpy as np
 import tifffile
 
 from .._beside import LAYOUT, Damaged, Directory, Stream, kept_of
+from .._types import Array
 from . import palettes, tiff_bits
 from .images import Picture, Refused, type_of
 from .tiff_form import COLOURS, DEFLATE, DESCRIPTION, OPACITIES, PALETTE, PHOTOMETRIC, PLAIN, SUBFILE, Form, form_of
@@ -105,7 +107,7 @@ def _told(stream: Stream, directory: Directory, number: int, has_smaller: bool) 
     return Picture(np.empty(0), 0, kept, tuple(lost), number=number, palette=palette)
 
 
-def _palette(stream: Stream, directory: Directory) -> Optional[np.ndarray]:
+def _palette(stream: Stream, directory: Directory) -> Optional[Array]:
     """The colours of an image that has a palette."""
     if PHOTOMETRIC not in directory or stream.numbers(directory[PHOTOMETRIC]) != [PALETTE]:
         return None
@@ -154,18 +156,22 @@ def by_tiffcp(path: str, number: int, folder: str, *words: str) -> str:
     return plain
 
 
-class _Warnings(logging.Handler):
-    """What tifffile has to say of how samples lie in a file: other tags are read here."""
+class _Warnings(logging.Filter):
+    """What tifffile has to say, in this thread, of how samples lie in a file: other tags are read here."""
 
     def __init__(self) -> None:
         super().__init__()
+        self.thread = threading.get_ident()
         self.told: List[str] = []
 
-    def emit(self, record: logging.LogRecord) -> None:
+    def filter(self, record: logging.LogRecord) -> bool:
+        if record.thread != self.thread:
+            return True
         text = record.getMessage()
         tag = re.search(r"TiffTag (\d+) ", text)
         if tag is None or int(tag[1]) in LAYOUT:
             self.told.append(text)
+        return False
 
 
 def _picture(path: str, number: int, form: Form, told: Picture) -> Picture:
@@ -184,12 +190,11 @@ def _picture(path: str, number: int, form: Form, told: Picture) -> Picture:
     return replace(told, samples=samples, depth=form.bits, alpha=alpha, opacity=opacity, notes=tuple(notes))
 
 
-def _by_tifffile(path: str, number: int, form: Form) -> np.ndarray:
+def _by_tifffile(path: str, number: int, form: Form) -> Array:
     """Samples (height, width, samples of a pixel) of 8 and 16 bits."""
     warnings = _Warnings()
     logger = logging.getLogger("tifffile")
-    logger.addHandler(warnings)
-    was, logger.propagate = logger.propagate, False
+    logger.addFilter(warnings)
     try:
         with tifffile.TiffFile(path) as file:
             samples = file.pages[number].asarray(squeeze=False, maxworkers=1)
@@ -198,8 +203,7 @@ def _by_tifffile(path: str, number: int, form: Form) -> np.ndarray:
     except Exception as why:
         raise Refused(f"tifffile can't read it: {type(why).__name__}: {why}") from why
     finally:
-        logger.removeHandler(warnings)
-        logger.propagate = was
+        logger.removeFilter(warnings)
     shape = (form.samples, 1, form.height, form.width, 1) if form.planar and form.samples > 1 else \
         (1, 1, form.height, form.width, form.samples)
     if samples.shape != shape or warnings.told:

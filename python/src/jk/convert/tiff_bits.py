@@ -6,6 +6,7 @@ from typing import BinaryIO
 
 import numpy as np
 
+from .._types import Array
 from .images import Refused, type_of
 from .tiff_form import DEFLATE, Form
 
@@ -13,7 +14,7 @@ from .tiff_form import DEFLATE, Form
 TURNED = np.packbits(np.unpackbits(np.arange(256, dtype=np.uint8)[:, np.newaxis], axis=1)[:, ::-1], axis=1)[:, 0]
 
 
-def samples_of(file: BinaryIO, form: Form) -> np.ndarray:
+def samples_of(file: BinaryIO, form: Form) -> Array:
     """The samples (height, width) of an image of one sample a pixel, whose strips or tiles were judged."""
     room = np.empty((form.height, form.width), type_of(form.bits))
     across, down = form.part
@@ -30,7 +31,7 @@ def samples_of(file: BinaryIO, form: Form) -> np.ndarray:
     return room
 
 
-def _unpacked(data: bytes, form: Form, rows: int, across: int) -> np.ndarray:
+def _unpacked(data: bytes, form: Form, rows: int, across: int) -> Array:
     """The samples of a strip or tile: each row begins with a byte, and the upper bits stand first."""
     length = (across * form.bits + 7) // 8
     if len(data) < rows * length:

@@ -8,7 +8,7 @@ import signal
 import subprocess
 import sys
 import threading
-from typing import Any, Dict, Iterator, List, Optional
+from typing import Any, Dict, Generator, Iterator, List, Optional
 
 from .._placing import remove_parts
 from .one import Done, Job, done
@@ -71,7 +71,8 @@ class Worker:
         assert self.child.stdout is not None and self.job is not None
         job, self.job = self.job, None
         try:
-            return pickle.load(self.child.stdout)
+            found: Done = pickle.load(self.child.stdout)
+            return found
         except (EOFError, pickle.UnpicklingError):
             self.files = FILES
             status = self.child.wait()
@@ -94,7 +95,7 @@ class Worker:
             remove_parts(os.path.dirname(self.job.stem) or ".")
 
 
-def each_done(jobs: Iterator[Job], count: int, stop: Stop) -> Iterator[Done]:
+def each_done(jobs: Iterator[Job], count: int, stop: Stop) -> Generator[Done, None, None]:
     """Converts files: one after another in this process, or by so many others, as they come."""
     if count == 1:
         for job in jobs:
@@ -105,7 +106,7 @@ def each_done(jobs: Iterator[Job], count: int, stop: Stop) -> Iterator[Done]:
         yield from _by_workers(jobs, count, stop)
 
 
-def _by_workers(jobs: Iterator[Job], count: int, stop: Stop) -> Iterator[Done]:
+def _by_workers(jobs: Iterator[Job], count: int, stop: Stop) -> Generator[Done, None, None]:
     idle: List[Worker] = []
     busy: Dict[int, Worker] = {}
     try:

@@ -11,9 +11,20 @@ back as it was, and what can't is refused. docs/library.md tells how elements ar
 >>> dicom.encode("scan.dcm", "coded.dcm")
 >>> assert not dicom.differences("scan.dcm", "coded.dcm")
 """
-from .comparing import differences
-from .pixels import Pixels, Refused
-from .reading import Source, opened
-from .writing import decode, encode
+from typing import TYPE_CHECKING
+
+if TYPE_CHECKING:
+    from .comparing import differences
+    from .pixels import Pixels, Refused
+    from .reading import Source, opened
+    from .writing import decode, encode
 
 __all__ = ["Pixels", "Refused", "Source", "decode", "differences", "encode", "opened"]
+#: Where names stand, which are imported when they are asked for, so that it can be told what to install.
+_PLACES = {"differences": "comparing", "Pixels": "pixels", "Refused": "pixels", "Source": "reading", "opened": "reading",
+           "decode": "writing", "encode": "writing"}
+
+
+def __getattr__(name: str) -> object:
+    from .._needs import found
+    return found(__name__, name, _PLACES)

@@ -16,6 +16,7 @@ from pydicom.uid import (
     JPEG2000Lossless,
 )
 
+from .._types import Array
 from ..faults import Fault
 from ..files import info, read
 from .elements import explicit, in_words, inflated
@@ -31,7 +32,7 @@ PIXEL_DATA, UNDEFINED = 0x7FE00010, 0xFFFFFFFF
 SOC_SIZ, COD = b"\xff\x4f\xff\x51", b"\xff\x52"
 
 
-def samples_of(data: bytes, pixels: Pixels, note: Note) -> np.ndarray:
+def samples_of(data: bytes, pixels: Pixels, note: Note) -> Array:
     """The samples of a frame's codestream or JP2 file, which must be of the image that the elements tell."""
     file = unpadded(data)
     told = info(file)
@@ -89,11 +90,11 @@ class Source:
     #: Whether the bytes of Pixel Data lie in big-endian words.
     swapped: bool
 
-    def frames(self, note: Note) -> Iterator[np.ndarray]:
+    def frames(self, note: Note) -> Iterator[Array]:
         """The samples of each frame, by pixel, in this machine's order."""
         return self._native() if self.fragments is None else self._coded(self.fragments, note)
 
-    def _coded(self, fragments: Fragments, note: Note) -> Iterator[np.ndarray]:
+    def _coded(self, fragments: Fragments, note: Note) -> Iterator[Array]:
         for number, data in enumerate(fragments.frames(self.pixels.frames, self.table, note), 1):
             try:
                 samples = samples_of(data, self.pixels, note)
@@ -101,7 +102,7 @@ class Source:
                 raise numbered(number, why) from why
             yield samples
 
-    def _native(self) -> Iterator[np.ndarray]:
+    def _native(self) -> Iterator[Array]:
         pixels = self.pixels
         kind = pixels.dtype.newbyteorder(">" if self.swapped else "<")
         for number in range(pixels.frames):

@@ -6,6 +6,7 @@ from typing import Dict, Iterable, List
 import numpy as np
 from pydicom.dataset import Dataset
 
+from .._types import Array
 from .pixels import Pixels, Refused, number
 
 
@@ -20,13 +21,13 @@ def claimed(dataset: Dataset) -> Dict[int, int]:
     return found
 
 
-def expected(samples: np.ndarray, pixels: Pixels) -> np.ndarray:
+def expected(samples: Array, pixels: Pixels) -> Array:
     """Samples whose unused bits are as they must be: 0, or where samples are signed the sign."""
     shift = pixels.allocated - pixels.stored
     return (samples << shift) >> shift
 
 
-def judged(samples: np.ndarray, pixels: Pixels, overlays: Dict[int, int], may_clear: int) -> np.ndarray:
+def judged(samples: Array, pixels: Pixels, overlays: Dict[int, int], may_clear: int) -> Array:
     """A frame's samples. Of the unused bits only those of a mask may be other than expected."""
     if pixels.stored == pixels.allocated:
         return samples
@@ -50,7 +51,7 @@ def _words(other: int, pixels: Pixels, overlays: Dict[int, int]) -> str:
     return f"samples have something in unused bits ({numbers}), above Bits Stored {pixels.stored}: {what}; {way}"
 
 
-def unpack(dataset: Dataset, pixels: Pixels, overlays: Dict[int, int], frames: Iterable[np.ndarray]) -> None:
+def unpack(dataset: Dataset, pixels: Pixels, overlays: Dict[int, int], frames: Iterable[Array]) -> None:
     """Makes an element of its own, 60xx,3000, of each overlay that lies in samples."""
     for group, bit in overlays.items():
         size = [number(dataset, (group, place), 0) for place in (0x10, 0x11)]  # type: ignore[arg-type]
@@ -58,7 +59,7 @@ def unpack(dataset: Dataset, pixels: Pixels, overlays: Dict[int, int], frames: I
         if not pixels.stored <= bit < pixels.allocated or pixels.samples != 1 or \
                 size != [pixels.rows, pixels.columns, pixels.frames]:
             raise Refused(f"the overlay of group {group:04x} doesn't lie in unused bits of the whole image")
-    planes: Dict[int, List[np.ndarray]] = {group: [] for group in overlays}
+    planes: Dict[int, List[Array]] = {group: [] for group in overlays}
     for frame in frames:
         for group, bit in overlays.items():
             planes[group].append(np.packbits((frame >> bit & 1).astype(np.uint8), bitorder="little"))
@@ -71,7 +72,7 @@ def unpack(dataset: Dataset, pixels: Pixels, overlays: Dict[int, int], frames: I
         dataset.add_new((group, 0x3000), "OW", _joined(planes[group], pixels))
 
 
-def _joined(planes: List[np.ndarray], pixels: Pixels) -> bytes:
+def _joined(planes: List[Array], pixels: Pixels) -> bytes:
     """Bits of frames, one behind another without a gap."""
     count = pixels.rows * pixels.columns
     if count % 8:

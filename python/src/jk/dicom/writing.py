@@ -11,8 +11,9 @@ from pydicom.dataset import Dataset
 from pydicom.uid import ExplicitVRLittleEndian, JPEG2000Lossless
 
 from .._placing import placed
+from .._types import Array
+from ..encoding import encode as codestream_of
 from ..faults import Fault
-from ..files import encode as codestream_of
 from .elements import OF_FRAGMENTS, write_elements, write_header
 from .fragments import DELIMITER, ITEM
 from .pixels import Note, Pixels, Refused, judge_high_bit
@@ -62,7 +63,7 @@ def judge_native(found: Source) -> None:
     judge_high_bit(pixels)
 
 
-def judged_frames(found: Source, overlays: Dict[int, int], may_clear: int, note: Note) -> Iterator[np.ndarray]:
+def judged_frames(found: Source, overlays: Dict[int, int], may_clear: int, note: Note) -> Iterator[Array]:
     """The frames of a native file, whose unused bits are as they must be, but for those of a mask."""
     for number, samples in enumerate(found.frames(note), 1):
         try:
@@ -92,7 +93,7 @@ def _tell(found: Source, note: Note) -> None:
         note("the file has digital signatures, which are kept; one over Pixel Data is of what `decode` gives back")
 
 
-def _write_coded(out: BinaryIO, found: Source, frames: Iterator[np.ndarray]) -> None:
+def _write_coded(out: BinaryIO, found: Source, frames: Iterator[Array]) -> None:
     """Header and fragments. The table, before the frames, is filled in when they are written."""
     pixels, dataset = found.pixels, found.dataset
     is_basic = pixels.frames * (pixels.size + pixels.size // 4 + (1 << 16)) < BASIC
@@ -118,7 +119,7 @@ def _write_coded(out: BinaryIO, found: Source, frames: Iterator[np.ndarray]) -> 
     out.seek(end)
 
 
-def _write_fragments(out: BinaryIO, frames: Iterator[np.ndarray], pixels: Pixels) -> Tuple[List[int], List[int]]:
+def _write_fragments(out: BinaryIO, frames: Iterator[Array], pixels: Pixels) -> Tuple[List[int], List[int]]:
     """A fragment for each frame, of an even length. Where they begin, counted from the first one, and how long they
     are."""
     begins: List[int] = []
