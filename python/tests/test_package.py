@@ -54,8 +54,12 @@ def mypy(tmp_path_factory):
 
     cache = tmp_path_factory.mktemp("mypy")
 
+    # Libraries whose own sources have types take a minute to read.
+    others = "".join(f"[mypy-{it}.*]\nfollow_imports = skip\n" for it in ("distributed", "dask", "pydicom", "tifffile", "PIL"))
+    (cache / "mypy.ini").write_text(f"[mypy]\nfollow_imports = silent\nstrict = True\n{others}")
+
     def run(folder, *words):
-        line = [sys.executable, "-m", "mypy", "--strict", "--cache-dir", str(cache), *words]
+        line = [sys.executable, "-m", "mypy", "--config-file", str(cache / "mypy.ini"), "--cache-dir", str(cache), *words]
         # What pytest put on the path isn't where users look.
         paths = {**os.environ, "MYPYPATH": os.path.dirname(os.path.dirname(jk.__file__))}
         return subprocess.run(line, cwd=folder, env=paths, capture_output=True, text=True)
@@ -63,16 +67,16 @@ def mypy(tmp_path_factory):
 
 
 def test_types_of_the_public_surface(tmp_path, mypy):
-    told = mypy(tmp_path, "-p", "jk").stdout
-    found = [line for line in told.splitlines() for it in PUBLIC if f"jk/{it}.py:" in line and ": error:" in line]
-    assert found == [] and "errors prevented further checking" not in told
+    modules = [f"jk.{it}".replace("/", ".").replace(".__init__", "") for it in PUBLIC]
+    done = mypy(tmp_path, *[word for it in modules for word in ("-m", it)])
+    assert done.returncode == 0 and f"no issues found in {len(PUBLIC)} source files" in done.stdout, done.stdout
 
 
 def test_types_in_a_program_of_a_user(tmp_path, mypy):
     (tmp_path / "user.py").write_text(USER)
     wrong = ['jk.encode(a, level=2)', 'jk.write("a", a, levels="2")', 'jk.Extras(xmp=5)', 'convert.convert("a", "b", colours=1)']
     (tmp_path / "wrong.py").write_text("\n".join([USER, *wrong]) + "\n")
-    done = mypy(tmp_path, "--follow-imports=silent", "user.py", "wrong.py")
+    done = mypy(tmp_path, "user.py", "wrong.py")
     first = USER.count("\n") + 2
     found = {line.split(":")[1] for line in done.stdout.splitlines() if line.startswith("wrong.py:") and ": error:" in line}
     assert found == {str(first + it) for it in range(4)} and "user.py:" not in done.stdout, done.stdout
