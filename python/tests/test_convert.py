@@ -1271,3 +1271,19 @@ def test_a_mere_warning_of_old_lzw_is_no_damage(tmp_path, monkeypatch):
     monkeypatch.setenv("PATH", f"{tmp_path / 'bin'}:{os.environ['PATH']}")
     converted(tmp_path / "a.tif", tmp_path / "a.jp2")
     assert np.array_equal(jk.read(tmp_path / "a.jp2"), samples)
+
+
+@pytest.mark.parametrize("depth", [1, 2, 4])
+@pytest.mark.parametrize("ending", ["png", "tif"])
+def test_an_opacity_of_few_bits_is_spread(tmp_path, depth, ending):
+    samples = noise((9, 11), U8, depth)
+    source = tiffs.png(tmp_path / "a.png", samples, depth=depth, chunks=[(b"tRNS", b"\0\1")])
+    converted(source, tmp_path / "a.jp2")
+    row, = converted(tmp_path / "a.jp2", tmp_path / f"b.{ending}", strict=True)
+    assert f"samples of {depth} bits are spread over 8" in row.notes
+    picture, = (png if ending == "png" else tiff).pictures(str(tmp_path / f"b.{ending}"))
+    assert np.array_equal(picture.whole(), jk.read(tmp_path / "a.jp2") * U8(255 // ((1 << depth) - 1)))
+    # Other depths have no such factor.
+    jk.write(tmp_path / "c.jp2", noise((9, 11, 2), U8, 5), depth=5, opacity="straight")
+    (_, why), = convert(tmp_path / "c.jp2", tmp_path / f"c.{ending}").refused
+    assert "opacity of 5 bits" in why or "straight of 5" in why

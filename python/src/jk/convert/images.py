@@ -64,6 +64,16 @@ class Picture:
         return [replace(self, alpha=None), Picture(self.alpha, self.depth, notes=("of the image before",))]
 
 
+def spread(picture: Picture, to: str) -> Picture:
+    """An image of 1, 2 or 4 bits with an opacity, whose samples are spread over the 8 bits that TIFF and PNG have for it: each
+    is multiplied, so that none is lost."""
+    if picture.alpha is None or to not in ("tiff", "png") or picture.depth not in (1, 2, 4):
+        return picture
+    factor = np.uint8(255 // ((1 << picture.depth) - 1))
+    notes = (*picture.notes, f"samples of {picture.depth} bits are spread over 8, by {factor}")
+    return replace(picture, samples=picture.samples * factor, alpha=picture.alpha * factor, depth=8, notes=notes)
+
+
 def kind_of(path: str) -> str:
     """What a file is: tiff, png, pnm or jp2."""
     with open(path, "rb") as file:

@@ -13,7 +13,7 @@ from .._types import Array
 from ..faults import Fault
 from . import jp2, png, pnm, tiff, tiff_writing
 from .again import agreed
-from .images import Picture, Refused, judge_file, kind_of, unchanged
+from .images import Picture, Refused, judge_file, kind_of, spread, unchanged
 from .into import Adding
 from .palettes import expanded
 from .placing import Placing, digest_of
@@ -113,7 +113,7 @@ def converted(job: Job) -> List[Row]:
                 if picture.kept.geo and not asked.geo:
                     picture = replace(picture, kept=replace(picture.kept, geo=()), lost=(*picture.lost, GEO_LEFT))
                 reader = agreed(job.source, kind, picture)
-                picture = expanded(picture, asked.palette)
+                picture = spread(expanded(picture, asked.palette), asked.to)
                 picture = replace(picture, notes=(*picture.notes, f"read again by {reader}" if reader else ALONE))
                 stem = f"{job.stem}-{number:04}" if count > 1 else job.stem
                 parts = [picture] if holds_opacity(job) else picture.apart()
