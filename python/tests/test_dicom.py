@@ -550,3 +550,28 @@ def test_other_transfer_syntaxes_stay_with_other_handlers(paths, handlers):
     jk.pydicom_handler.register()
     one, other = (pydicom.dcmread(get_testdata_file(f"MR_small{it}.dcm")).pixel_array for it in ("", "_RLE"))
     assert np.array_equal(one, other)
+
+
+def test_an_element_without_a_value_is_the_same_in_both_forms(tmp_path):
+    frames = noise((1, 9, 12))
+    dicoms.native(tmp_path / "plain.dcm", frames, 8)
+    made = pydicom.dcmread(tmp_path / "plain.dcm")
+    made.ReferencedImageSequence[0].add_new(0x00181182, "IS", "")
+    made.ReferencedImageSequence[0].add_new(0x00280008, "IS", "3")
+    made.is_implicit_VR, made.file_meta.TransferSyntaxUID = True, ImplicitVRLittleEndian
+    made.save_as(tmp_path / "in.dcm", write_like_original=False)
+    jk.dicom.encode(tmp_path / "in.dcm", tmp_path / "coded.dcm", note=lambda text: None)
+    assert jk.dicom.differences(tmp_path / "in.dcm", tmp_path / "coded.dcm") == []
+
+
+@pytest.mark.parametrize("length", [6, 7])
+def test_a_sequence_delimiter_inside_a_codestream(tmp_path, length):
+    """It is no end of the fragments, and the padding behind the codestream is taken off as elsewhere."""
+    frames = noise((1, 9, 12))
+    file = jk.encode(frames[0], raw=True)
+    at = file.index(b"\xff\x90")
+    text = b"\xfe\xff\xdd\xe0\0\0\0"[:length]
+    file = file[:at] + b"\xff\x64" + (4 + length).to_bytes(2, "big") + b"\0\0" + text + file[at:]
+    dicoms.coded(tmp_path / "coded.dcm", frames, 8, [[file]])
+    jk.dicom.decode(tmp_path / "coded.dcm", tmp_path / "back.dcm")
+    assert np.array_equal(pydicom.dcmread(tmp_path / "back.dcm").pixel_array, frames[0])

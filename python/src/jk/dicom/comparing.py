@@ -65,7 +65,9 @@ def _flat(dataset: Dataset, place: str) -> Iterator[Any]:
             for number, item in enumerate(element.value):
                 yield from _flat(item, f"{name}[{number}]")
         else:
-            yield name, _meaning(int(tag) if not place else 0, element.VR, element.value)
+            # Of an element without a value pydicom has bytes, text or nothing, by how it was read.
+            is_empty = element.value is None or isinstance(element.value, str) and not element.value
+            yield name, _meaning(int(tag) if not place else 0, element.VR, b"" if is_empty else element.value)
 
 
 def _meaning(tag: int, vr: Any, values: Any) -> Any:
