@@ -151,7 +151,7 @@ def test_a_dask_cluster_of_which_a_worker_is_killed(tmp_path, cluster):
         tiffs.tiff(source / f"{number:03}.tif", noise((120, 140, 3), seed=number))
     line = [sys.executable, "-m", "jk.convert", "in", "out", "--scheduler", cluster.address]
     run = subprocess.Popen(line, cwd=tmp_path, env=ENV, stderr=subprocess.PIPE, text=True)
-    until = time.monotonic() + 120
+    until = time.monotonic() + 300
     told = []
     threading.Thread(target=lambda: told.append(run.stderr.read()), daemon=True).start()
 
@@ -166,7 +166,7 @@ def test_a_dask_cluster_of_which_a_worker_is_killed(tmp_path, cluster):
     cluster.add()
     assert run.wait(max(1, until - time.monotonic())) == 0, told
     judged(source, out, 400)
-    told = subprocess.run([*line, "--resume"], cwd=tmp_path, env=ENV, capture_output=True, text=True, timeout=120)
+    told = subprocess.run([*line, "--resume"], cwd=tmp_path, env=ENV, capture_output=True, text=True, timeout=300)
     assert told.returncode == 0 and "0 converted, 400 passed over" in told.stderr, told.stderr
     plain = convert(source, tmp_path / "plain", workers=4)
     assert plain.converted == 400

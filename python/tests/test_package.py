@@ -56,12 +56,14 @@ def mypy(tmp_path_factory):
 
     # Libraries whose own sources have types take a minute to read.
     others = "".join(f"[mypy-{it}.*]\nfollow_imports = skip\n" for it in ("distributed", "dask", "pydicom", "tifffile", "PIL"))
+    # Of a package that is installed the sources are looked at too.
+    sources = tmp_path_factory.mktemp("sources")
+    (sources / "jk").symlink_to(os.path.dirname(jk.__file__))
     (cache / "mypy.ini").write_text(f"[mypy]\nfollow_imports = silent\nstrict = True\n{others}")
 
     def run(folder, *words):
         line = [sys.executable, "-m", "mypy", "--config-file", str(cache / "mypy.ini"), "--cache-dir", str(cache), *words]
-        # What pytest put on the path isn't where users look.
-        paths = {**os.environ, "MYPYPATH": os.path.dirname(os.path.dirname(jk.__file__))}
+        paths = {**os.environ, "MYPYPATH": str(sources)}
         return subprocess.run(line, cwd=folder, env=paths, capture_output=True, text=True)
     return run
 
@@ -106,6 +108,8 @@ def test_errors_of_pillow_are_pickled():
     ("jk.dicom", "pydicom", "python3-pydicom", "dicom"),
 ])
 def test_what_to_install_is_told(tmp_path, module, library, package, extra):
+    if library == "PIL":
+        pytest.importorskip("tifffile")
     (tmp_path / f"{library}.py").write_text(f"raise ModuleNotFoundError('No module named so', name={library!r})")
     env = {**ENV, "PYTHONPATH": os.pathsep.join([str(tmp_path), *sys.path])}
     words = {"jk.convert": ["a", "b"], "jk.dicom": ["check", "a"]}[module]

@@ -63,23 +63,28 @@ def site(tmp_path):
     return tmp_path
 
 
-def begun(site, *words):
+def begun(site, *words, hangup=signal.SIG_DFL):
     """A look that begins."""
     room = site / "room"
     room.mkdir(exist_ok=True)
     command = [sys.executable, "-m", "jk.view", "--no-browser", "--jk", str(site / "jk"), "--leaflet",
                str(site / "leaflet"), *map(str, words)]
-    # What a shell starts in the background passes over SIGINT, and so would what it starts.
+    # What a shell starts in the background passes over SIGINT, and what nohup starts over SIGHUP, and so would what those
+    # start.
+    def as_asked():
+        signal.signal(signal.SIGINT, signal.SIG_DFL)
+        signal.signal(signal.SIGHUP, hangup)
+
     return subprocess.Popen(command, stdout=subprocess.PIPE, stderr=subprocess.PIPE, text=True,
                             env={**os.environ, "TMPDIR": str(room)},
-                            preexec_fn=lambda: signal.signal(signal.SIGINT, signal.SIG_DFL))
+                            preexec_fn=as_asked)
 
 
 class Shown:
     """`python -m jk.view`, as it runs."""
 
-    def __init__(self, site, *words):
-        self.child, self.room = begun(site, *words), site / "room"
+    def __init__(self, site, *words, **how):
+        self.child, self.room = begun(site, *words, **how), site / "room"
         self.said = self.child.stdout.readline()
         found = re.match(r"http://127\.0\.0\.1:(\d+)/", self.said)
         self.port = int(found[1]) if found else None
@@ -188,11 +193,7 @@ def test_it_ends_when_the_server_is_killed(site):
 
 
 def test_under_nohup_a_closed_terminal_ends_nothing(site):
-    before = signal.signal(signal.SIGHUP, signal.SIG_IGN)
-    try:
-        shown = Shown(site, site)
-    finally:
-        signal.signal(signal.SIGHUP, before)
+    shown = Shown(site, site, hangup=signal.SIG_IGN)
     shown.child.send_signal(signal.SIGHUP)
     assert shown.get("/images")[0] == 200
     assert shown.end()[0] == 0

@@ -176,7 +176,8 @@ def boxes_of(extras: Extras) -> bytes:
     exif = extras.exif
     if exif is not None and exif.startswith(b"Exif\0\0"):
         exif = exif[6:]
-    others: List[Tuple[Union[bytes, uuid.UUID], Optional[bytes]]] = [(XMP, extras.xmp), (EXIF, exif), (IPTC, extras.iptc), *extras.uuids]
+    others: List[Tuple[Union[bytes, uuid.UUID], Optional[bytes]]] = [
+        (XMP, extras.xmp), (EXIF, exif), (IPTC, extras.iptc), *extras.uuids]
     made = [box(b"colr", b"\2\0\0" + extras.profile)] if extras.profile is not None else []
     made.append(grids(*told))
     made += [box(b"xml ", text) for text in extras.xml]

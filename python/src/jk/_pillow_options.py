@@ -7,8 +7,8 @@ from typing import Any, Dict, List, Sequence, Tuple
 #: The most levels that jk writes.
 LEVELS = 5
 #: Names of Pillow, and those of `jk.encode` that they stand for.
-NAMES = {"offset": "place", "tile_size": "tile", "progression": "order", "num_resolutions": "levels", "codeblock_size": "block",
-         "precinct_size": "precincts", "mct": "colour", "quality_layers": "layers", "no_jp2": "raw"}
+NAMES = {"offset": "place", "tile_size": "tile", "progression": "order", "num_resolutions": "levels",
+         "codeblock_size": "block", "precinct_size": "precincts", "mct": "colour", "quality_layers": "layers", "no_jp2": "raw"}
 #: Options that lose nothing with these values alone.
 ONLY = {"irreversible": (False, None), "cinema_mode": ("no", None), "tile_offset": ((0, 0), None), "plt": (False, None)}
 

@@ -84,8 +84,8 @@ def word(number: SupportsIndex) -> int:
 
 
 def info(file: File, reduce: int = 0) -> Info:
-    """What boxes and headers of a file say of its image, `reduce` times halved. No sample is decoded, and of a path boxes and
-    headers alone are read."""
+    """What boxes and headers of a file say of its image, `reduce` times halved. No sample is decoded, and of a path boxes
+    and headers alone are read."""
     if isinstance(file, (str, os.PathLike)) and os.path.isfile(file):
         try:
             return _info(headers_of(file), reduce)

@@ -22,9 +22,9 @@ ABOUT = """TIFF, PNG, PGM and PPM files to lossless JPEG 2000, and back.
     python -m jk.convert IN.. --into ARCHIVE   by `jk add`
 
 Taken are RGB of 8 and 16 bits, grey, PGM and PPM of 1 to 16, with an opacity or without, and palettes where --palette
-says so. Pages go to OUT-0001, OUT-0002 and so on. Samples are never narrowed: all else is refused, with the way out told. What is
-written is read back from the disk and compared, and IN is read a second time by another reader where there is one. No
-file is removed or overwritten: where OUT is there already with other bytes, it is refused."""
+says so. Pages go to OUT-0001, OUT-0002 and so on. Samples are never narrowed: all else is refused, with the way out
+told. What is written is read back from the disk and compared, and IN is read a second time by another reader where
+there is one. No file is removed or overwritten: where OUT is there already with other bytes, it is refused."""
 AFTER = """A folder gets a table, jk-convert.csv, with a row for each file that was written: its digests, what was
 carried of profile, resolution and so on, and what wasn't. The status is 1 where a file was refused, and 2 where nothing
 was begun; Ctrl-C lets files that are being converted end, and the status is 130."""
@@ -69,8 +69,8 @@ def words() -> argparse.ArgumentParser:
 
 def how_of(asked: argparse.Namespace) -> Dict[str, Any]:
     """What was asked for, as `convert` takes it."""
-    names = ("to", "strict", "geo", "palette", "into", "windows", "levels", "layers", "order", "reset", "causal", "segments", "sop",
-             "eph", "raw")
+    names = ("to", "strict", "geo", "palette", "into", "windows", "levels", "layers", "order", "reset", "causal",
+             "segments", "sop", "eph", "raw")
     how = {name: getattr(asked, name) for name in names if getattr(asked, name) not in (None, False)}
     if asked.no_colour:
         how["colour"] = False
@@ -157,7 +157,8 @@ def main(line: Optional[List[str]] = None) -> int:
             if asked.scheduler:
                 client, executor = cluster(asked.scheduler)
                 opened.callback(client.close)
-            counts = convert(sources, target, asked.csv, asked.resume, asked.workers, telling, executor=executor, **how_of(asked))
+            counts = convert(sources, target, asked.csv, asked.resume, asked.workers, telling, executor=executor,
+                             **how_of(asked))
     except (CannotConvert, Refused) as why:
         print(f"jk.convert: {why}", file=sys.stderr)
         return 2

@@ -73,7 +73,8 @@ def cluster(address: str) -> Tuple[Any, Executor]:
         raise Refused(f"{address}: a machine there can't run jk: {type(why).__name__}: {why}") from why
     if others:
         client.close()
-        raise Refused(f"{address}: {', '.join(f'{where} has jk {it}' for where, it in others.items())}, and here is {version()}")
+        told = ", ".join(f"{where} has jk {it}" for where, it in others.items())
+        raise Refused(f"{address}: {told}, and here is {version()}")
     return client, client.get_executor(pure=False, retries=5)
 
 

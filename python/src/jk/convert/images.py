@@ -65,8 +65,8 @@ class Picture:
 
 
 def spread(picture: Picture, to: str) -> Picture:
-    """An image of 1, 2 or 4 bits with an opacity, whose samples are spread over the 8 bits that TIFF and PNG have for it: each
-    is multiplied, so that none is lost."""
+    """An image of 1, 2 or 4 bits with an opacity, whose samples are spread over the 8 bits that TIFF and PNG have for it:
+    each is multiplied, so that none is lost."""
     if picture.alpha is None or to not in ("tiff", "png") or picture.depth not in (1, 2, 4):
         return picture
     factor = np.uint8(255 // ((1 << picture.depth) - 1))

@@ -9,8 +9,8 @@ import numpy as np
 from .._beside import LONG, SHORT, Field, built, fields_of, order_of
 from .images import Picture, Refused
 from .tiff_form import (
-    BITS, BLACK_IS_ZERO, COMPRESSION, EXTRA, FORMAT, HEIGHT, OPACITIES, PHOTOMETRIC, PLANAR, RGB, ROWS, SAMPLES, STRIP_SIZES, STRIPS,
-    WHITE_IS_ZERO, WIDTH,
+    BITS, BLACK_IS_ZERO, COMPRESSION, EXTRA, FORMAT, HEIGHT, OPACITIES, PHOTOMETRIC, PLANAR, RGB, ROWS, SAMPLES,
+    STRIP_SIZES, STRIPS, WHITE_IS_ZERO, WIDTH,
 )
 
 #: So many bytes a strip has, where a row has no more.
