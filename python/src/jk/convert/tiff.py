@@ -25,7 +25,7 @@ from .tiff_form import COLOURS, DEFLATE, DESCRIPTION, OPACITIES, PALETTE, PHOTOM
 #: So many bytes a strip or tile may have too many.
 SPARE = 1 << 16
 #: What tiffcp says of directories, which are read here.
-HARMLESS = re.compile(r"TIFF(ReadDirectory|FetchNormalTag|FetchDirectory\w*|ReadCustomDirectory): Warning|"
+HARMLESS = re.compile(r"TIFF(ReadDirectory\w*|FetchNormalTag|FetchDirectory\w*|ReadCustomDirectory): Warning|"
                       r"LZW\w+: Warning, Old-style LZW codes")
 
 
