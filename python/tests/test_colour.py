@@ -93,3 +93,19 @@ def test_a_profile_is_given_and_taken():
 def test_what_is_no_profile_is_refused(profile):
     with pytest.raises(jk.BadParameters, match="profile"):
         jk.encode(noise((5, 6, 3)), extras=jk.Extras(any_profile=profile))
+
+
+def test_a_profile_is_given_without_a_look_at_the_codestream():
+    """As resolution and XMP are: what is damaged there is told when it is read."""
+    file = jk.encode(noise((9, 11, 3)))
+    at = file.index(b"\xff\x52")
+    damaged = file[: at + 4] + b"\xff" + file[at + 5 :]
+    for given in (jk.Extras(profile=icc()), jk.Extras(any_profile=TABLES), jk.Extras(resolution=300)):
+        made = jk.with_extras(damaged, given)
+        assert made.endswith(damaged[damaged.index(b"jp2c") :])
+        with pytest.raises(jk.Fault):
+            jk.read(made)
+    for broken in (b"", b"no file", file[:20], file[:60], jk.encode(noise((9, 11, 4)))):
+        for given in (jk.Extras(profile=icc()), jk.Extras(any_profile=TABLES)):
+            with pytest.raises(jk.Fault):
+                jk.with_extras(broken, given)

@@ -103,12 +103,13 @@ def headers_of(path: Any) -> Array:
         size = os.fstat(file.fileno()).st_size
         if size < SMALL:
             return np.frombuffer(file.read(), np.uint8)
-        sparse = Sparse(file.fileno(), size)
         try:
+            sparse = Sparse(file.fileno(), size)
             if sparse.number(0, 2) == SOC:
                 sparse.codestream(0, size)
             else:
                 sparse.boxes()
-        except Odd:
+        except (Odd, OSError):
+            # A system may have no room for so many zeros.
             return np.fromfile(path, np.uint8)
         return np.frombuffer(sparse.room, np.uint8)

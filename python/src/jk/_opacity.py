@@ -74,6 +74,15 @@ def opacity_of(file: Any, components: int) -> Optional[str]:
     return kind if order == list(range(components)) else None
 
 
+def components_of(file: Any) -> int:
+    """How many components the box `ihdr` of a file tells; 0 where it can't be found, which the library judges."""
+    try:
+        header = header_of(file)
+    except struct.error:
+        return 0
+    return int.from_bytes(header[16:18], "big") if header[4:8] == b"ihdr" else 0
+
+
 def counted(file: bytes, components: int) -> bytes:
     """A JP2 file whose box `ihdr` tells another number of components, as the library is to judge a profile by it."""
     header = bytearray(header_of(file))

@@ -181,15 +181,15 @@ def with_extras(file: File, extras: Extras) -> bytes:
     """
     data = _bytes_of(file)
     boxes = np.frombuffer(boxes_of(extras), np.uint8)
-    told = _info(data, 0) if extras.profile is not None or extras.any_profile is not None else None
-    colours = told.components - (told.opacity is not None) if told is not None else 0
-    has_opacity = told is not None and told.opacity is not None
-    if has_opacity:
+    components = _opacity.components_of(data) if extras.profile is not None or extras.any_profile is not None else 0
+    colours = components
+    if components in (2, 4) and _opacity.opacity_of(data, components) is not None:
         # A profile is for the colours alone.
+        colours -= 1
         data = np.frombuffer(_opacity.counted(data.tobytes(), colours), np.uint8)
     made = handed_out(lambda *out: _calls.with_extras(*list_of(data), *list_of(boxes), *out), data.size + boxes.size)
-    if has_opacity:
-        made = _opacity.counted(made, colours + 1)
+    if colours != components:
+        made = _opacity.counted(made, components)
     if extras.any_profile is None:
         return made
     _colour.check_profile(extras.any_profile, colours)
