@@ -1287,3 +1287,14 @@ def test_an_opacity_of_few_bits_is_spread(tmp_path, depth, ending):
     jk.write(tmp_path / "c.jp2", noise((9, 11, 2), U8, 5), depth=5, opacity="straight")
     (_, why), = convert(tmp_path / "c.jp2", tmp_path / f"c.{ending}").refused
     assert "opacity of 5 bits" in why or "straight of 5" in why
+
+
+@pytest.mark.parametrize("extra", [1, 2])
+def test_signed_samples_with_an_opacity_are_two_codestreams(tmp_path, extra):
+    samples = noise((9, 11, 2), I8)
+    (tmp_path / "in").mkdir()
+    tiffs.tiff(tmp_path / "in" / "a.tif", samples, fields={338: (3, [extra])})
+    counts = convert(tmp_path / "in", tmp_path / "out")
+    assert counts.refused == [] and sorted(os.listdir(tmp_path / "out")) == ["a-alpha.j2k", "a.j2k", "jk-convert.csv"]
+    assert np.array_equal(jk.read(tmp_path / "out" / "a.j2k"), samples[:, :, 0])
+    assert np.array_equal(jk.read(tmp_path / "out" / "a-alpha.j2k"), samples[:, :, 1])

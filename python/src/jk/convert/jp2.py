@@ -39,7 +39,9 @@ def pictures(path: str) -> Iterator[Picture]:
     kept, lost = beside(data)
     if (told.x0, told.y0) != (0, 0):
         lost.append("place on the reference grid")
-    samples = np.atleast_3d(read(data))[:, :, order]
+    samples = np.atleast_3d(read(data))
+    if order != sorted(order):
+        samples = samples[:, :, order]
     alpha = np.ascontiguousarray(samples[:, :, -1]) if opacity else None
     image = np.ascontiguousarray(samples[:, :, 0] if colours == 1 else samples[:, :, :3])
     yield Picture(image, told.depth, kept, tuple(lost), alpha=alpha, opacity=opacity or "straight")

@@ -116,7 +116,7 @@ def converted(job: Job) -> List[Row]:
                 picture = spread(expanded(picture, asked.palette), asked.to)
                 picture = replace(picture, notes=(*picture.notes, f"read again by {reader}" if reader else ALONE))
                 stem = f"{job.stem}-{number:04}" if count > 1 else job.stem
-                parts = [picture] if holds_opacity(job) else picture.apart()
+                parts = [picture] if holds_opacity(job, picture) else picture.apart()
                 made += [written(job, stem + ending, part, placing) for ending, part in zip(("", "-alpha"), parts)]
         placing.place()
     seconds = f"{time.monotonic() - begun:.3f}"
@@ -142,9 +142,9 @@ def ending_of(job: Job, picture: Picture) -> str:
     return job.ending or due[job.asked.to]
 
 
-def holds_opacity(job: Job) -> bool:
+def holds_opacity(job: Job, picture: Picture) -> bool:
     """Whether an image and its opacity go to one file: else to two, as PGM and PPM files and bare codestreams."""
-    is_bare = job.asked.raw or job.ending.lower() in (".j2k", ".j2c", ".jpc")
+    is_bare = job.asked.raw or job.ending.lower() in (".j2k", ".j2c", ".jpc") or picture.samples.dtype.kind == "i"
     return job.asked.to != "pnm" and not job.asked.into and not is_bare
 
 
