@@ -153,6 +153,16 @@ def test_bits_from_right_to_left(tmp_path, scheme, fields):
     assert np.array_equal(jk.read(tmp_path / "a.jp2"), np.unpackbits(samples, axis=1) if fields else samples)
 
 
+@needs_tiffcp
+@pytest.mark.parametrize("scheme", ["none", "lzw"])
+def test_words_whose_bits_lie_from_right_to_left(tmp_path, scheme):
+    samples = noise((9, 11, 3), U16)
+    plain = tiffs.tiff(tmp_path / "plain.tif", samples)
+    subprocess.run(["tiffcp", "-c", scheme, "-f", "lsb2msb", plain, tmp_path / "a.tif"], check=True)
+    row, = converted(tmp_path / "a.tif", tmp_path / "a.jp2")
+    assert np.array_equal(jk.read(tmp_path / "a.jp2"), samples) and ("tiffcp" in row.notes)
+
+
 @pytest.mark.parametrize("dtype", [I8, I16])
 def test_signed_samples_become_a_codestream(tmp_path, dtype):
     samples = noise((9, 11), dtype)

@@ -144,7 +144,8 @@ def by_tiffcp(path: str, number: int, folder: str, *words: str) -> str:
         os.symlink(os.path.abspath(path), link)
     if os.path.exists(plain):
         os.unlink(plain)
-    line = ["tiffcp", "-c", "none", *words, f"{link},{number}", plain]
+    # The upper bits of a byte stand first then, however they lie in the file.
+    line = ["tiffcp", "-c", "none", "-f", "msb2lsb", *words, f"{link},{number}", plain]
     try:
         done = subprocess.run(line, stdin=subprocess.DEVNULL, capture_output=True, text=True, errors="replace")
     except OSError as error:
