@@ -109,3 +109,10 @@ def test_a_profile_is_given_without_a_look_at_the_codestream():
         for given in (jk.Extras(profile=icc()), jk.Extras(any_profile=TABLES)):
             with pytest.raises(jk.Fault):
                 jk.with_extras(broken, given)
+
+
+def test_jpylyzer_finds_nothing_but_the_method(tmp_path):
+    jpylyzer = pytest.importorskip("jpylyzer.jpylyzer")
+    jk.write(tmp_path / "a.jp2", noise((9, 11, 3)), extras=jk.Extras(any_profile=TABLES))
+    told = jpylyzer.checkOneFile(str(tmp_path / "a.jp2"))
+    assert [(it.tag, it.text) for it in told.find("tests").iter() if it.text] == [("methIsValid", "False")]

@@ -144,4 +144,4 @@ def test_jpylyzer_finds_it_valid(tmp_path):
         jk.write(tmp_path / "a.jp2", noise(shape), opacity="straight", extras=jk.Extras(resolution=300))
         told = jpylyzer.checkOneFile(str(tmp_path / "a.jp2"))
         assert told.findtext(".//isValid") == "True"
-        assert [it.text for it in told.findall(".//cTyp")] == ["color"] * (shape[2] - 1) + ["opacity"]
+        assert [it.text for it in told.findall(".//cTyp")] == ["colour"] * (shape[2] - 1) + ["opacity"]

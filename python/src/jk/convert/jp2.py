@@ -20,7 +20,7 @@ from .images import Picture, Refused
 #: What isn't carried of what is no ICC profile for the image's components.
 IN_EXIF = "the profile outside EXIF (it is none for such an image)"
 #: How a profile is carried that JP2 readers don't take.
-AS_ANY = "the profile is carried as METH 3, which readers of JP2 alone pass over"
+AS_ANY = "the profile is carried as METH 3 of JPX, which readers of JP2 alone pass over and jpylyzer calls invalid"
 #: The UUID of GeoJP2's box.
 GEO = bytes.fromhex("b14bf8bd083d4b43a5ae8cd7d5a6ce03")
 #: Colour spaces whose samples are grey or RGB.
