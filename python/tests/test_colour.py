@@ -89,7 +89,8 @@ def test_a_profile_is_given_and_taken():
     assert np.array_equal(jk.read(again), noise((9, 11)))
 
 
-@pytest.mark.parametrize("profile", [b"", b"no profile" * 20, TABLES[:-1], TABLES + b"\0", icc(b"GRAY")])
+@pytest.mark.parametrize("profile", [b"", b"no profile" * 20, TABLES[:-1], TABLES + b"\0", icc(b"GRAY"),
+                                     TABLES[:36] + b"none" + TABLES[40:]])
 def test_what_is_no_profile_is_refused(profile):
     with pytest.raises(jk.BadParameters, match="profile"):
         jk.encode(noise((5, 6, 3)), extras=jk.Extras(any_profile=profile))

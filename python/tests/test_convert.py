@@ -1308,3 +1308,14 @@ def test_signed_samples_with_an_opacity_are_two_codestreams(tmp_path, extra):
     assert counts.refused == [] and sorted(os.listdir(tmp_path / "out")) == ["a-alpha.j2k", "a.j2k", "jk-convert.csv"]
     assert np.array_equal(jk.read(tmp_path / "out" / "a.j2k"), samples[:, :, 0])
     assert np.array_equal(jk.read(tmp_path / "out" / "a-alpha.j2k"), samples[:, :, 1])
+
+
+def test_another_kind_of_opacity_that_reads_back_is_refused(tmp_path, monkeypatch):
+    source = tiffs.tiff(tmp_path / "a.tif", noise((9, 11, 2)), fields={338: (3, [1])})
+    write = jp2.encode
+
+    def straight(samples, opacity, **how):
+        return write(samples, opacity="straight", **how)
+
+    monkeypatch.setattr(jp2, "encode", straight)
+    refused(source, tmp_path / "a.jp2", "reads back with another kind of opacity")

@@ -71,6 +71,22 @@ def test_threads_tell_of_their_own_files_alone(tmp_path):
     assert (counts.refused, counts.converted, counts.incomplete) == ([], 60, 30)
 
 
+def test_what_another_thread_hears_of_tifffile(tmp_path, monkeypatch):
+    import logging
+    from jk.convert import tiff
+    source = tiffs.tiff(tmp_path / "a.tif", noise((9, 11)))
+    asarray = tiff.tifffile.TiffPage.asarray
+
+    def meanwhile(page, *words, **named):
+        thread = threading.Thread(target=lambda: logging.getLogger("tifffile").warning("corrupted strip of another file"))
+        thread.start()
+        thread.join()
+        return asarray(page, *words, **named)
+
+    monkeypatch.setattr(tiff.tifffile.TiffPage, "asarray", meanwhile)
+    assert convert(source, tmp_path / "a.jp2").refused == []
+
+
 def test_an_executor_that_breaks(tmp_path, many):
     class Broken(concurrent.futures.Executor):
         def submit(self, call, *words, **named):

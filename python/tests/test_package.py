@@ -157,9 +157,11 @@ FILES = {
 
 
 @pytest.mark.parametrize("name", FILES)
-def test_info_of_a_path_reads_headers_alone(tmp_path, name):
+def test_info_of_a_path_reads_headers_alone(tmp_path, name, monkeypatch):
     data = FILES[name]()
     (tmp_path / "a.jp2").write_bytes(data)
+    # No file is read whole.
+    monkeypatch.setattr(np, "fromfile", None)
     read = []
     pread = os.pread
 

@@ -179,3 +179,20 @@ def test_many_processes_write_beside_each_other(tmp_path):
         assert child.wait(max(1, until - time.monotonic())) == 0
     assert sorted(os.listdir(tmp_path)) == ["all.jp2", *[f"own-{it}.jp2" for it in range(4)]]
     assert all(int(jk.read(tmp_path / it).max()) == 11 for it in os.listdir(tmp_path))
+
+
+def test_a_part_whose_name_another_one_took_stays(tmp_path, monkeypatch):
+    """Between the look at a part that was left and the lock on it another writer removes it, and makes its own."""
+    from jk import _placing
+    (tmp_path / ".jk-tmp-0").write_bytes(b"left")
+    flock = fcntl.flock
+
+    def late(file, kind):
+        if os.fstat(file).st_size == 4:
+            (tmp_path / ".jk-tmp-0").unlink()
+            (tmp_path / ".jk-tmp-0").write_bytes(b"another's")
+        flock(file, kind)
+
+    monkeypatch.setattr(fcntl, "flock", late)
+    assert not _placing._removed(str(tmp_path / ".jk-tmp-0"))
+    assert (tmp_path / ".jk-tmp-0").read_bytes() == b"another's"

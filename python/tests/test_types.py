@@ -96,3 +96,12 @@ def test_samples_at_odd_addresses_are_written():
     samples = noise((9, 11), np.uint16)
     odd = np.frombuffer(b"\0" + samples.tobytes(), np.uint8)[1:].view(np.uint16).reshape(9, 11)
     assert np.array_equal(jk.read(jk.encode(odd)), samples)
+
+
+def test_the_library_is_given_even_addresses(monkeypatch):
+    seen = []
+    monkeypatch.setattr(jk.encoding, "list_of", lambda array: seen.append(array.ctypes.data % array.itemsize) or jk.files.list_of(array))
+    for at in (0, 1):
+        odd = np.frombuffer(bytes(at) + noise((9, 11), np.uint16).tobytes(), np.uint8)[at:].view(np.uint16).reshape(9, 11)
+        jk.encode(odd)
+    assert seen and not any(seen)
