@@ -17,7 +17,11 @@ import pytest
 STAND_IN = f"""#!{sys.executable}
 import http.server, os, sys, time
 folder = sys.argv[2]
+older = os.path.exists(sys.argv[0] + ".older")
+if sys.argv[1:] == ["serve", "--help"]:
+    sys.exit(print("" if older else "  --host-names NAMES"))
 assert sys.argv[1] == "serve" and sys.argv[3:5] == ["--port", "0"], sys.argv
+assert older != (sys.argv[-2:] == ["--host-names", "127.0.0.1"]), sys.argv
 
 class Replies(http.server.BaseHTTPRequestHandler):
     protocol_version = "HTTP/1.1"
@@ -171,6 +175,16 @@ def test_other_hosts_are_refused(site):
         assert shown.get("/images", f"localhost:{shown.port}")[0] == 200
     finally:
         shown.end()
+
+
+def test_the_server_answers_for_this_machine_alone(site):
+    shown = Shown(site, site)
+    assert shown.get("/images")[0] == 200
+    shown.end()
+    (site / "jk.older").write_text("")
+    older = Shown(site, site)
+    assert older.get("/images")[0] == 200
+    older.end()
 
 
 def test_it_ends_when_the_server_ends(site):

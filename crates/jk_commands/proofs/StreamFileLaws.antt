@@ -2,7 +2,7 @@
 use Rattle.std.proofs.Common.{◌≡◌, ℕ, ◌*◌, ◌-◌, ◌≤◌, ◌⊎◌, List, [], ◌++◌, length, take, drop, Option, Result, Ok, Err, OnOk, refl, sym, ap, subst, ◌∙◌, append_assoc, append-nil, inl, inr, arith}
 use Rattle.std.specs.Bool.{⊤}
 use Rattle.std.proofs.lemmas.List.{take-append-drop}
-use Rattle.std.specs.Io.KnownBytes.{Appends, IsAtEnd}
+use Rattle.std.specs.Io.KnownBytes.{Appends}
 use Rattle.jk_math.specs.Memory.{IsMemory}
 use Rattle.jk_math.specs.Picture.{Picture}
 use Rattle.jk_math.specs.Steps.{ok_is}
@@ -24,7 +24,7 @@ use Rattle.jk_files.specs.declared.incoming.Incoming.{Incoming}
 use Rattle.jk_files.specs.Incoming.{waiting_of, Took}
 use Rattle.jk_files.proofs.Laws.{took_both}
 use Rattle.jk_commands.specs.Commands.{encoded}
-use Rattle.jk_commands.specs.RowStreaming.{with_raster, AreBad, WereRefused, HasRaster, IsLeftOfStream, HasAll, IsBad, IsLeftOfIncoming}
+use Rattle.jk_commands.specs.RowStreaming.{with_raster, AreBad, WereRefused, HasRaster, IsLeftOfStream, HasAll, HasNoHead, IsBad, IsLeftOfIncoming}
 use Rattle.jk_commands.proofs.LeftLaws.{Wrote, encoded_is, left_of, left_unplaced}
 use Rattle.jk_commands.proofs.StreamLaws.{took_front}
 
@@ -88,11 +88,11 @@ module _ {S : Type 0} (remaining : S → Option (List ℕ)) where
         (pnm_bad (k.front ++ ((bad.bytes ++ w) ++ more)) h ((bad.bytes ++ w) ++ more) (head_stays a b c h k bad.bytes more bad.took) (bad.why [] more none_before none));
   }
 
-  pub bad_head : (a b : Incoming S) → Took remaining a b [] → IsAtEnd (remaining b.source.now) → header_at (waiting_of b) ≡ Err BadPnm → IsBad remaining a b
-  bad_head a b took ended is = record {
+  pub bad_head : (a b : Incoming S) → Took remaining a b [] → HasNoHead remaining b → IsBad remaining a b
+  bad_head a b took bad = record {
     bytes = [];
     took = took;
-    why = λ more none. pnm_unheaded (waiting_of b ++ more) BadPnm (ap (λ (xs : List ℕ). header_at (waiting_of b ++ xs)) (none ended) ∙ ap (λ (xs : List ℕ). header_at xs) (append-nil (waiting_of b)) ∙ is);
+    why = λ more none. pnm_unheaded (waiting_of b ++ more) BadPnm (bad more none);
   }
 
   -- A file was taken, and has this picture.
@@ -134,14 +134,14 @@ module _ {S : Type 0} (remaining : S → Option (List ℕ)) where
 
   -- no head was found
   pub headless_left : (x : Option (List ℕ)) (plan : Plan) (a b : Incoming S) (e : Fault) → IsMemory e ⊎ (e ≡ Shelf) ⊎ (e ≡ BadPnm)
-      → (e ≡ BadPnm → Took remaining a b [] × IsAtEnd (remaining b.source.now) × (header_at (waiting_of b) ≡ Err BadPnm)) → Wrote x x (λ text. IsLeftOfIncoming remaining plan a b text (Err e))
+      → (e ≡ BadPnm → Took remaining a b [] × HasNoHead remaining b) → Wrote x x (λ text. IsLeftOfIncoming remaining plan a b text (Err e))
   headless_left x plan a b e kind bad = elim kind [
     | inl memory ↦ failed_left x x plan a b [] (Err e) e (appends_none x) refl refl (inl memory)
     | inr other ↦ elim other [
       | inl shelf ↦ failed_left x x plan a b [] (Err e) e (appends_none x) refl refl (inr shelf)
       | inr is ↦
           let h = bad is in
-          bad_left x x plan a b [] (Err e) (appends_none x) (ap (λ (d : Fault). let q : Result ⊤ Fault = Err d in q) is) refl (bad_head a b h.0 h.1 h.2)
+          bad_left x x plan a b [] (Err e) (appends_none x) (ap (λ (d : Fault). let q : Result ⊤ Fault = Err d in q) is) refl (bad_head a b h.0 h.1)
     ]
   ]
 

@@ -11,7 +11,7 @@ use Rattle.jk_params.specs.declared.picture_frame.PictureFrame.{PictureFrame}
 use Rattle.jk_params.specs.PictureFrames.{frame_of}
 use Rattle.jk_pnm.specs.declared.header.Header.{Header}
 use Rattle.jk_pnm.specs.Pnm.{components_of}
-use Rattle.jk_pnm.specs.Reading.{raster_size, picture_at, pnm_at}
+use Rattle.jk_pnm.specs.Reading.{raster_size, header_at, picture_at, pnm_at}
 use Rattle.jk_pnm.specs.Heads.{row_bytes}
 use Rattle.jk_pnm.specs.RasterRows.{Drawing, drawn, rows_moved}
 use Rattle.jk_code.specs.Beginnings.{Left}
@@ -108,6 +108,11 @@ module _ {S : Type 0} (remaining : S → Option (List ℕ)) where
     pub took : Took remaining a b bytes
     pub ended : IsAtEnd (remaining b.source.now)
     pub none : waiting_of b ≡ []
+
+  -- The bytes that wait begin no header, whatever comes after them; none comes where the source is at
+  -- its end.
+  abbrev pub HasNoHead : Incoming S → Type 0
+  HasNoHead b = (more : List ℕ) → (IsAtEnd (remaining b.source.now) → more ≡ []) → header_at (waiting_of b ++ more) ≡ Err BadPnm
 
   -- The file is refused by the bytes that were seen, whatever comes behind them.
   pub record IsBad (a b : Incoming S) : Type 0 where

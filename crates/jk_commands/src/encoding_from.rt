@@ -18,7 +18,7 @@ ghost use Rattle.jk_options.specs.Plans.{at_place};
 ghost use Rattle.jk_commands.specs.Commands.{encoded};
 ghost use Rattle.jk_commands.specs.Written.{LeftOf};
 ghost use Rattle.jk_files.specs.Incoming.{waiting_of, Took};
-ghost use Rattle.jk_commands.specs.RowStreaming.{frame_placed, with_raster, WereRead, WereRefused, HasRaster, IsLeftOfStream, HasAll, IsLeftOfIncoming, IsLeftOfSource};
+ghost use Rattle.jk_commands.specs.RowStreaming.{frame_placed, with_raster, WereRead, WereRefused, HasRaster, HasNoHead, IsLeftOfStream, HasAll, IsLeftOfIncoming, IsLeftOfSource};
 
 use crate::encoding_rows::stripe_end;
 use crate::encoding_rows_by::encode_rows_by;
@@ -28,7 +28,7 @@ use jk_jobs::Gate;
 use jk_math::{Fault, Image};
 use jk_options::{PlacedFrame, Plan};
 use jk_params::PictureFrame;
-use jk_pnm::{RasterHead, read_head};
+use jk_pnm::{RasterHead, no_header, read_head};
 use jk_tile::Workers;
 use std::alloc::Global;
 use std::io::{Read, Write};
@@ -159,19 +159,26 @@ fn waiting_head<S: Read>(incoming: &Incoming<'_, S>) -> Option<(RasterHead, usiz
     }
 }
 
+/// Whether the bytes that wait begin no header, whatever comes after them.
+fn has_no_head<S: Read>(incoming: &Incoming<'_, S>) -> bool
+    ensures { result ≡ true → (more : List ℕ) → header_at (waiting_of incoming.now ++ more) ≡ Err BadPnm }
+{
+    no_header(incoming.waiting()).is_some()
+}
+
 /// How often the beginning of a file is read for its head at most, with twice as many bytes each time:
 /// memory has room for fewer than 2^63 of them.
 const TURNS: u32 = 64;
 
-/// The head of a file, whose bytes are taken.
+/// The head of a file, whose bytes are taken. No more of the file is read than tells whether it has
+/// one.
 ///
 /// BadPnm: the file has none.
 fn head_of<S: Read>(incoming: &mut Incoming<'_, S>) -> Result<RasterHead, Fault>
     ensures found { IfOk result (λ head. (front : List ℕ) × Took S.remaining incoming.old incoming.new front
         × (header_at (front ++ waiting_of incoming.new) ≡ Ok (head, waiting_of incoming.new))) }
     ensures bad { IfErr result (λ e. e ≡ BadPnm → Took S.remaining incoming.old incoming.new []
-        × IsAtEnd (S.remaining incoming.new.source.now)
-        × (header_at (waiting_of incoming.new) ≡ Err BadPnm)) }
+        × HasNoHead S.remaining incoming.new) }
     ensures fault { IfErr result (λ e. IsMemory e ⊎ (e ≡ Shelf) ⊎ (e ≡ BadPnm)) }
 {
     let mut asked = 1;
@@ -181,7 +188,7 @@ fn head_of<S: Read>(incoming: &mut Incoming<'_, S>) -> Result<RasterHead, Fault>
             incoming.take(size);
             return Ok(head);
         }
-        if !there {
+        if !there || has_no_head(incoming) {
             return Err(Fault::BadPnm);
         }
         asked = incoming.waiting().len().saturating_mul(2);

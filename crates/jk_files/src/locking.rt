@@ -65,9 +65,9 @@ pub enum SharedLock<F> {
     Unwritable,
 }
 
-/// Opens the file of a folder's lock to lock it alone. A system that wants it open for writing then
+/// Opens a regular file to lock it alone. A system that wants it open for writing then
 /// is served where it may be written.
-fn open_to_hold<R: Files>(rt: &R, path: &str) -> io::Result<R::File> {
+pub(crate) fn open_to_hold<R: Files>(rt: &R, path: &str) -> io::Result<R::File> {
     let mut options = OpenOptions::new();
     options.read(true).write(true);
     match open_regular(rt, &options, path) {

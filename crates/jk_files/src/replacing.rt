@@ -1,28 +1,57 @@
-//! Files anywhere, replaced as a whole.
+//! Where a file that is written anywhere goes.
 
-ghost use Rattle.std.specs.Prelude.{OnOk};
-ghost use Rattle.std.specs.Io.KnownBytes.{Appends};
-
-use crate::place::{is_file_name, place};
-use crate::refusal::Refusal;
-use jk_math::Refused;
-use std::alloc::Global;
-use std::fs::{self, File, OpenFile, OpenOptions, Permissions};
-use std::io::{self, ErrorKind, Write};
+use crate::owning::{Ownable, Owner, owner_of};
+use crate::place::is_file_name;
+use crate::sameness::are_same;
+use std::fs::{Metadata, OpenFile, OpenOptions, Permissions};
+use std::io::{self, ErrorKind};
 use std::rt::Files;
 
-/// How many names are tried for the file that is written first.
-const NAMES: u32 = 1000;
+/// What may not be replaced.
+#[derive(Clone, Copy, Debug)]
+pub struct Rules<'a> {
+    /// The path of the input: the output may not be the same regular file, links followed.
+    pub input: Option<&'a str>,
+    /// Whether everything that has the output's path stays.
+    pub is_new: bool,
+}
+
+/// What a file has that is to be replaced, and the new one is given.
+#[derive(Drop)]
+pub(crate) struct Old {
+    permissions: Permissions,
+    owner: Owner,
+}
+
+/// What the system tells of a file that is to be replaced.
+fn old_of(metadata: &Metadata) -> Old {
+    Old {
+        permissions: metadata.permissions(),
+        owner: owner_of(metadata),
+    }
+}
+
+impl Old {
+    /// Gives a new file the owner and the permissions. If the system doesn't allow another owner, the
+    /// file keeps its own.
+    pub(crate) fn give_to<F: OpenFile + Ownable>(self, file: &F) -> io::Result<()> {
+        let Old { permissions, owner } = self;
+        if owner_of(&file.metadata()?) != owner {
+            let _ = file.give_to(owner);
+        }
+        file.set_permissions(permissions)
+    }
+}
 
 /// Where what is written goes.
 #[derive(Drop)]
 pub(crate) enum Target {
     /// A name that nothing has.
     New,
-    /// A regular file with these permissions.
-    File(Permissions),
-    /// A link that leads to a regular file with these permissions.
-    Link(Permissions),
+    /// A regular file.
+    File(Old),
+    /// A link that leads to a regular file.
+    Link(Old),
     /// Anything else, as a pipe or a device, which is opened and written.
     AsItIs,
 }
@@ -36,24 +65,45 @@ fn new_target(path: &str) -> Target {
     }
 }
 
-/// What stands under a path. A link below `/dev` is one of the system's to an open file, so it is
-/// written as it is.
-pub(crate) fn target_of<R: Files>(rt: &R, path: &str) -> io::Result<Target> {
-    let metadata = match rt.symlink_metadata(path) {
-        Ok(metadata) => metadata,
-        Err(said) if said.kind() == ErrorKind::NotFound => return Ok(new_target(path)),
-        Err(said) => return Err(said),
-    };
+/// What stands under a path, where that may be replaced. A link below `/dev` is one of the system's
+/// to an open file, so it is written as it is.
+fn target_there<R: Files>(rt: &R, path: &str, metadata: &Metadata) -> Target {
     if metadata.is_file() {
-        return Ok(Target::File(metadata.permissions()));
+        return Target::File(old_of(metadata));
     }
     if metadata.is_symlink() && !path.starts_with("/dev/") {
-        return Ok(match rt.metadata(path) {
-            Ok(metadata) if metadata.is_file() => Target::Link(metadata.permissions()),
+        return match rt.metadata(path) {
+            Ok(metadata) if metadata.is_file() => Target::Link(old_of(&metadata)),
             _ => Target::AsItIs,
-        });
+        };
     }
-    Ok(Target::AsItIs)
+    Target::AsItIs
+}
+
+/// Refuses an output that is the input.
+fn check_input<R: Files>(rt: &R, path: &str, rules: Rules<'_>) -> io::Result<()> {
+    match rules.input {
+        Some(input) if are_same(rt, input, path) => {
+            Err(io::Error::new(ErrorKind::InvalidInput, "it is the input too"))
+        }
+        _ => Ok(()),
+    }
+}
+
+/// What stands under a path, or why it may not be replaced.
+pub(crate) fn target_of<R: Files>(rt: &R, path: &str, rules: Rules<'_>) -> io::Result<Target> {
+    check_input(rt, path, rules)?;
+    match rt.symlink_metadata(path) {
+        Ok(_) if rules.is_new => Err(is_there()),
+        Ok(metadata) => Ok(target_there(rt, path, &metadata)),
+        Err(said) if said.kind() == ErrorKind::NotFound => Ok(new_target(path)),
+        Err(said) => Err(said),
+    }
+}
+
+/// What is said where something has a path that must be new.
+pub(crate) fn is_there() -> io::Error {
+    io::Error::new(ErrorKind::AlreadyExists, "it is there already")
 }
 
 /// A path's folder and the name inside it.
@@ -63,90 +113,6 @@ pub(crate) fn split(path: &str) -> (&str, &str) {
         Some((folder, name)) => (folder, name),
         None => ("", path),
     }
-}
-
-/// The name of a file that is written first.
-fn first_name(alloc: Global, number: u32) -> Result<String, Refused> {
-    Ok(format!(in alloc; ".jk-tmp-{number}")?)
-}
-
-/// A file that is written first, and its path.
-#[derive(Drop)]
-pub(crate) struct First<F> {
-    pub(crate) file: F,
-    pub(crate) path: String,
-}
-
-/// Makes a file in a folder under a name that nothing has.
-///
-/// System: it can't be made, or a thousand such names are taken.
-pub(crate) fn create_first<R: Files>(
-    rt: &R,
-    alloc: Global,
-    folder: &str,
-) -> Result<First<R::File>, Refusal> {
-    for number in 0..NAMES {
-        let path = place(alloc, folder, first_name(alloc, number)?.as_str())?;
-        match File::create_new(rt, path.as_str()) {
-            Ok(file) => return Ok(First { file, path }),
-            Err(said) if said.kind() == ErrorKind::AlreadyExists => {}
-            Err(said) => return Err(Refusal::System(said)),
-        }
-    }
-    Err(Refusal::System(io::Error::new(
-        ErrorKind::AlreadyExists,
-        "too many files .jk-tmp-N beside it",
-    )))
-}
-
-/// Gives a file the permissions of the one that it is to replace, if there is one, and writes all
-/// bytes to it.
-fn fill<F: Write + OpenFile>(
-    file: &mut F,
-    permissions: Option<Permissions>,
-    bytes: &[u8],
-) -> io::Result<()>
-    ensures { OnOk result (Appends (F.contents file.old) (F.contents file.new) bytes.now) }
-{
-    if let Some(permissions) = permissions {
-        file.set_permissions(permissions)?;
-    }
-    file.write_all(bytes)
-}
-
-/// Fills a file, closes it, and gives it another path.
-fn fill_and_rename<R: Files>(
-    rt: &R,
-    first: First<R::File>,
-    permissions: Option<Permissions>,
-    bytes: &[u8],
-    path: &str,
-) -> io::Result<()> {
-    let First {
-        mut file,
-        path: first,
-    } = first;
-    let filled = fill(&mut file, permissions, bytes);
-    drop(file);
-    let renamed = filled.and_then(|()| fs::rename(rt, first.as_str(), path));
-    if renamed.is_err() {
-        let _ = fs::remove_file(rt, first.as_str());
-    }
-    renamed
-}
-
-/// Writes a file beside a path, and gives it that path once it is whole. A failure removes it.
-fn replace_whole<R: Files>(
-    rt: &R,
-    alloc: Global,
-    path: &str,
-    permissions: Option<Permissions>,
-    bytes: &[u8],
-) -> Result<(), Refusal> {
-    let (folder, _) = split(path);
-    let first = create_first(rt, alloc, folder)?;
-    fill_and_rename(rt, first, permissions, bytes, path)?;
-    Ok(())
 }
 
 /// Refuses a file that may not be written.
@@ -163,48 +129,4 @@ pub(crate) fn is_forbidden(said: &io::Error) -> bool {
         said.kind(),
         ErrorKind::PermissionDenied | ErrorKind::ReadOnlyFilesystem | ErrorKind::ResourceBusy
     )
-}
-
-/// Replaces a file as a whole, or where its folder doesn't allow that, writes it as it is.
-fn replace<R: Files>(
-    rt: &R,
-    alloc: Global,
-    path: &str,
-    permissions: Option<Permissions>,
-    bytes: &[u8],
-) -> Result<(), Refusal> {
-    if permissions.is_some() {
-        check_writable(rt, path)?;
-    }
-    match replace_whole(rt, alloc, path, permissions, bytes) {
-        Err(Refusal::System(said)) if is_forbidden(&said) => Ok(fs::write(rt, path, bytes)?),
-        answer => answer,
-    }
-}
-
-/// Writes a file anywhere. Where a regular file has the path, or nothing, the bytes are written to
-/// a new file beside it first, which takes its place and has its permissions once it is whole: a
-/// failure removes the new file, and leaves what was there. Of a link to a regular file, that file
-/// is replaced, and the link stays.
-///
-/// Where the folder doesn't allow a new file, or that it takes the other's place, and where
-/// something else has the path, as a pipe or a device, or a link that leads nowhere or lies below
-/// `/dev`, it is opened and written as it is.
-///
-/// System: it can't be written.
-pub fn replace_file<R: Files>(
-    rt: &R,
-    alloc: Global,
-    path: &str,
-    bytes: &[u8],
-) -> Result<(), Refusal> {
-    match target_of(rt, path)? {
-        Target::New => replace(rt, alloc, path, None, bytes),
-        Target::File(permissions) => replace(rt, alloc, path, Some(permissions), bytes),
-        Target::Link(permissions) => {
-            let file = rt.canonicalize(alloc, path)?;
-            replace(rt, alloc, file.as_str(), Some(permissions), bytes)
-        }
-        Target::AsItIs => Ok(fs::write(rt, path, bytes)?),
-    }
 }

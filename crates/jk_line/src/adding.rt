@@ -1,15 +1,16 @@
 //! `jk add DIR NAME IN`: an image is added to an archive.
 
 use crate::beside::{Unstored, look_and_tell, store};
-use crate::failure::{Failure, of_options, with_words};
+use crate::encoding::components_in;
+use crate::failure::{Failure, of_image, of_options, with_words};
 use crate::keeping::{asked, of_encoding};
 use crate::streams::read;
 use crate::world::{Streams, World};
 use jk_beside::Extras;
-use jk_commands::{Plan, components_of, judge, read_image};
+use jk_commands::{EncodeOptions, Plan, judge, read_image};
 use jk_math::{Fault, Image};
 use jk_store::Encoded;
-use jk_words::{Adding, Kept, Work};
+use jk_words::{Adding, Front, Kept, Work};
 use std::alloc::Global;
 
 /// An image encoded as it is asked for, with what its file is to keep, if anything. What it is
@@ -45,38 +46,60 @@ pub(crate) fn extras<W: Streams>(
     Ok(Some(extras))
 }
 
-/// Why adding was refused.
-fn of_adding(alloc: Global, fault: Fault, line: &Adding<'_>) -> Failure {
-    let (folder, name) = (line.folder, line.name);
+/// An image that is to be added: its folder, its name, the file that it is in, and the options.
+#[derive(Clone, Copy)]
+pub(crate) struct Asked<'a> {
+    pub(crate) folder: &'a str,
+    pub(crate) name: &'a str,
+    pub(crate) path: &'a str,
+    pub(crate) options: &'a EncodeOptions,
+}
+
+/// Why an image isn't added to a folder, with words for it.
+fn of_adding(alloc: Global, fault: Fault, asked: &Asked<'_>, front: &Front) -> Failure {
+    let Asked {
+        folder,
+        name,
+        path,
+        options,
+    } = *asked;
     match fault {
-        Fault::BadParameters => of_options(alloc, fault, &line.options),
+        Fault::BadParameters => of_options(alloc, fault, options),
         Fault::BadName => with_words(
             fault,
-            format!(in alloc; "{name} isn't 1 to 64 of the characters a to z, 0 to 9, - and _"),
+            format!(in alloc;
+                "the name {name} isn't 1 to 64 of the characters a to z, 0 to 9, - and _"
+            ),
         ),
         Fault::NameTaken => with_words(fault, format!(in alloc; "{folder} has a file {name}.jp2")),
-        _ => Failure::from(fault),
+        Fault::Limit => with_words(
+            fault,
+            format!(in alloc;
+                "{folder} has 4096 images, as many as an archive lists, or {path} is too large"
+            ),
+        ),
+        Fault::Shelf => with_words(
+            fault,
+            format!(in alloc; "{name}.jp2 can't be written to {folder}"),
+        ),
+        _ => of_image(alloc, fault, path, front),
     }
 }
 
-/// Why an image of so many components, whose file may be to keep something, wasn't added.
-fn of_unstored(
+/// Why an image that begins so, and whose file may be to keep something, isn't added.
+pub(crate) fn of_unstored(
     alloc: Global,
     unstored: Unstored,
-    line: &Adding<'_>,
+    asked: &Asked<'_>,
     extras: Option<&Extras>,
-    components: u16,
+    front: &Front,
 ) -> Failure {
     match (unstored, extras) {
         (Unstored::Folder(failure), _) => failure,
-        (Unstored::Image(Fault::BadParameters), Some(extras)) => of_encoding(
-            alloc,
-            Fault::BadParameters,
-            extras,
-            components,
-            &line.options,
-        ),
-        (Unstored::Image(fault), _) => of_adding(alloc, fault, line),
+        (Unstored::Image(Fault::BadParameters), Some(extras)) => {
+            of_encoding(alloc, extras, components_in(front.bytes()), asked.options)
+        }
+        (Unstored::Image(fault), _) => of_adding(alloc, fault, asked, front),
     }
 }
 
@@ -95,17 +118,25 @@ pub(crate) fn add<W: World>(
     let extras = extras(alloc, world, &line.kept)?;
     let extras = extras.as_ref();
     let bytes = read(alloc, world, line.input)?;
-    let size = bytes.len() as u64;
-    let image = read_image(alloc, bytes)?;
-    let components = components_of(&image);
+    let front = Front::of(alloc, &bytes);
+    let image = match read_image(alloc, bytes) {
+        Ok(image) => image,
+        Err(fault) => return Err(of_image(alloc, fault, line.input, &front)),
+    };
+    let asked = Asked {
+        folder: line.folder,
+        name: line.name,
+        path: line.input,
+        options: &line.options,
+    };
     if let Err(unstored) = look_and_tell(alloc, world, line.folder, line.name) {
-        return Err(of_unstored(alloc, unstored, line, extras, components));
+        return Err(of_unstored(alloc, unstored, &asked, extras, &front));
     }
-    world.begin_work(Work::Encoding, Some(size));
+    world.begin_work(Work::Encoding, Some(front.size()));
     let encoded = encoded(alloc, line.name, image, plan, extras);
     world.end_work();
     match store(alloc, world, line.folder, &encoded?) {
         Ok(()) => Ok(()),
-        Err(unstored) => Err(of_unstored(alloc, unstored, line, extras, components)),
+        Err(unstored) => Err(of_unstored(alloc, unstored, &asked, extras, &front)),
     }
 }

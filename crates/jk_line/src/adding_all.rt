@@ -1,17 +1,17 @@
 //! `jk add DIR --all PATHS..`: the images of many files are added to an archive.
 
-use crate::adding::extras;
-use crate::beside::{look, store, tell_others};
+use crate::adding::{Asked, extras, of_unstored};
+use crate::beside::{Unstored, look, store, tell_others};
 use crate::failure::{Failure, of_options, of_world};
 use crate::scans::{Coming, Scan};
 use crate::status::Status;
 use crate::workers::workers;
-use crate::world::World;
+use crate::world::{Streams, World};
 use jk_beside::Extras;
 use jk_commands::judge;
 use jk_math::Fault;
 use jk_store::{Encoded, added_text, refused_text};
-use jk_words::AddingAll;
+use jk_words::{AddingAll, Front, cause_of};
 use std::alloc::Global;
 use std::collections::VecDeque;
 use std::sync::Arc;
@@ -34,17 +34,27 @@ fn place_of(path: &str) -> &str {
     if path == "-" { "./-" } else { path }
 }
 
-/// An image that is on its way into an archive, and its name.
+/// A file that is added: its path, the name of its image, how it begins, and why it isn't read or the
+/// name isn't taken, if that is known before it is encoded.
+#[derive(Drop)]
+struct Source<'a> {
+    path: &'a str,
+    name: &'a str,
+    front: Front,
+    refused: Option<Failure>,
+}
+
+/// An image that is on its way into an archive.
 #[derive(Drop)]
 struct OnItsWay<'a> {
-    name: &'a str,
+    source: Source<'a>,
     coming: Coming,
 }
 
-/// An image that is encoded, or why it isn't, and its name.
+/// An image that is encoded, or why it isn't.
 #[derive(Drop)]
 struct Arrived<'a> {
-    name: &'a str,
+    source: Source<'a>,
     encoded: Result<Encoded, Fault>,
 }
 
@@ -57,14 +67,16 @@ struct Row<'a> {
     waiting: VecDeque<OnItsWay<'a>>,
     /// Whether one was refused.
     is_refused: bool,
+    /// Whether causes are printed.
+    in_words: bool,
 }
 
 impl<'a> Row<'a> {
     /// The image that has been on its way for the longest, once it is encoded.
     fn first<R: Threads>(&mut self, rt: &R) -> Option<Arrived<'a>> {
-        let OnItsWay { name, coming } = self.waiting.pop_front()?;
+        let OnItsWay { source, coming } = self.waiting.pop_front()?;
         Some(Arrived {
-            name,
+            source,
             encoded: coming.get(rt),
         })
     }
@@ -87,21 +99,42 @@ fn read_scan<W: World>(
     line: &AddingAll<'_>,
     kept: &Option<Arc<Extras>>,
     path: &str,
-) -> Result<Scan, Fault> {
+) -> Result<Scan, Failure> {
     let name = name_of(path);
     if let Err(unstored) = look(alloc, world, line.folder, name) {
-        return Err(unstored.fault());
+        return Err(of_refused(alloc, unstored, line, path, &Front::new(alloc)));
     }
     let kept = match kept {
         Some(extras) => Some(Arc::try_clone(extras)?),
         None => None,
     };
+    let bytes = match world.read(alloc, place_of(path)) {
+        Ok(bytes) => bytes,
+        Err(fault) => return Err(of_world(alloc, world, fault, path, "read")),
+    };
     Ok(Scan {
         name: String::from_str(alloc, name)?,
-        bytes: world.read(alloc, place_of(path))?,
+        bytes,
         plan: judge(alloc, &line.options)?,
         kept,
     })
+}
+
+/// Why the image of a file isn't added, with words for it.
+fn of_refused(
+    alloc: Global,
+    unstored: Unstored,
+    line: &AddingAll<'_>,
+    path: &str,
+    front: &Front,
+) -> Failure {
+    let asked = Asked {
+        folder: line.folder,
+        name: name_of(path),
+        path,
+        options: &line.options,
+    };
+    of_unstored(alloc, unstored, &asked, None, front)
 }
 
 /// Begins to encode the image of a file. What is refused by now is told in its turn.
@@ -113,36 +146,99 @@ fn begin<'a, W: World>(
     path: &'a str,
 ) -> OnItsWay<'a> {
     let name = name_of(path);
-    let coming = match read_scan(alloc, world, line, kept, path) {
-        Ok(scan) => Coming::begin(world.runtime(), alloc, scan),
-        Err(fault) => Coming::Now(Encoded::refused(alloc, name, fault)),
-    };
-    OnItsWay { name, coming }
+    match read_scan(alloc, world, line, kept, path) {
+        Ok(scan) => OnItsWay {
+            source: Source {
+                path,
+                name,
+                front: Front::of(alloc, &scan.bytes),
+                refused: None,
+            },
+            coming: Coming::begin(world.runtime(), alloc, scan),
+        },
+        Err(failure) => OnItsWay {
+            coming: Coming::Now(Encoded::refused(alloc, name, failure.fault)),
+            source: Source {
+                path,
+                name,
+                front: Front::new(alloc),
+                refused: Some(failure),
+            },
+        },
+    }
 }
 
-/// Stores an image, and tells what comes of it. Answers whether it was refused.
+/// Why an image that was encoded, or wasn't, isn't stored; None where it is.
+fn stored<W: World>(
+    alloc: Global,
+    world: &mut W,
+    line: &AddingAll<'_>,
+    path: &str,
+    front: &Front,
+    encoded: Result<Encoded, Fault>,
+) -> Option<Failure> {
+    let encoded = match encoded {
+        Ok(encoded) => encoded,
+        Err(fault) => return Some(Failure::from(fault)),
+    };
+    match store(alloc, world, line.folder, &encoded) {
+        Ok(()) => None,
+        Err(unstored) => Some(of_refused(alloc, unstored, line, path, front)),
+    }
+}
+
+/// Prints to standard error why the image of a file wasn't added.
+fn report_path<W: Streams>(
+    alloc: Global,
+    world: &mut W,
+    path: &str,
+    failure: &Failure,
+) -> Result<(), Failure> {
+    let words = match &failure.words {
+        Some(words) => words.as_str(),
+        None => cause_of(&failure.fault),
+    };
+    let text = if words.starts_with(path) {
+        format!(in alloc; "jk: {words}\n")?
+    } else {
+        format!(in alloc; "jk: {path}: {words}\n")?
+    };
+    world.tell(&text);
+    Ok(())
+}
+
+/// Stores an image, and prints what comes of it.
 fn end<W: World>(
     alloc: Global,
     world: &mut W,
-    folder: &str,
+    line: &AddingAll<'_>,
+    row: &mut Row<'_>,
     arrived: Arrived<'_>,
-) -> Result<bool, Failure> {
-    let Arrived { name, encoded } = arrived;
-    let refused = match encoded {
-        Ok(encoded) => match store(alloc, world, folder, &encoded) {
-            Ok(()) => None,
-            Err(unstored) => Some(unstored.fault()),
-        },
-        Err(fault) => Some(fault),
-    };
-    let text = match refused {
-        Some(fault) => refused_text(alloc, name, fault)?,
+) -> Result<(), Failure> {
+    let Arrived { source, encoded } = arrived;
+    let Source {
+        path,
+        name,
+        front,
+        refused,
+    } = source;
+    let failure = stored(alloc, world, line, path, &front, encoded);
+    let text = match &failure {
+        Some(failure) => refused_text(alloc, name, failure.fault)?,
         None => added_text(alloc, name)?,
     };
-    match world.end_file(&text) {
-        Ok(()) => Ok(refused.is_some()),
-        Err(fault) => Err(of_world(alloc, world, fault, "standard output", "written")),
+    if let Err(fault) = world.end_file(&text) {
+        return Err(of_world(alloc, world, fault, "standard output", "written"));
     }
+    let Some(failure) = failure else {
+        return Ok(());
+    };
+    row.is_refused = true;
+    if row.in_words {
+        // What was known before the image was encoded has its own words.
+        report_path(alloc, world, path, &refused.unwrap_or(failure))?;
+    }
+    Ok(())
 }
 
 /// Adds the images of files in their order. As many as there are workers are encoded side by side,
@@ -162,15 +258,13 @@ fn add_each<'a, W: World>(
         };
         let next = begin(alloc, world, line, &row.kept, path);
         row.waiting.push_back(next)?;
-        if let Some(arrived) = first {
-            let is_refused = end(alloc, world, line.folder, arrived)?;
-            row.is_refused = row.is_refused || is_refused;
+        if let Some(first) = first {
+            end(alloc, world, line, row, first)?;
         }
     }
     for _ in 0..workers {
-        if let Some(arrived) = row.first(world.runtime()) {
-            let is_refused = end(alloc, world, line.folder, arrived)?;
-            row.is_refused = row.is_refused || is_refused;
+        if let Some(first) = row.first(world.runtime()) {
+            end(alloc, world, line, row, first)?;
         }
     }
     Ok(())
@@ -183,8 +277,9 @@ pub(crate) fn add_all<W: World>(
     alloc: Global,
     world: &mut W,
     line: &AddingAll<'_>,
+    in_words: bool,
 ) -> Result<Status, Failure> {
-    let workers = workers(alloc, line.workers)?;
+    let workers = workers(alloc, world, line.workers)?;
     if let Err(fault) = judge(alloc, &line.options) {
         return Err(of_options(alloc, fault, &line.options));
     }
@@ -199,6 +294,7 @@ pub(crate) fn add_all<W: World>(
         kept,
         waiting: VecDeque::with_capacity(alloc, workers)?,
         is_refused: false,
+        in_words,
     };
     world.begin_files(line.paths.len() as u64);
     let added = add_each(alloc, world, line, workers, &mut row);

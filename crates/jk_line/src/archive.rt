@@ -2,12 +2,13 @@
 
 use crate::failure::{Failure, of_world, with_words};
 use crate::serving::{Meanwhile, Serving};
+use crate::unjudged::count_unserved;
 use crate::workers::workers;
-use crate::world::World;
+use crate::world::{Working, World};
 use jk_jobs::Open;
 use jk_math::Fault;
 use jk_store::{Archive, Images, Shelf, image_name};
-use jk_words::Server;
+use jk_words::{Server, cause_of};
 use std::alloc::Global;
 
 /// Why the folder of an archive can't be read: with the file that can't be, where it is one.
@@ -55,10 +56,15 @@ fn tell_skipped<W: World>(
     alloc: Global,
     world: &mut W,
     archive: &Archive<W::Folder>,
+    in_words: bool,
 ) -> Result<(), Failure> {
     for file in archive.skipped() {
         let line = format!(in alloc; "jk: {}.jp2 isn't listed: {}\n", file.name, file.fault)?;
         world.tell(&line);
+        if in_words {
+            world.tell(&cause_of(&file.fault));
+            world.tell(&"\n");
+        }
     }
     Ok(())
 }
@@ -66,9 +72,10 @@ fn tell_skipped<W: World>(
 /// How long a read or a write may wait at most, in seconds.
 const MOST_TIMEOUT: u32 = 3600;
 
-/// How an archive is served, if the options are within their limits.
-fn serving(alloc: Global, line: &Server<'_>) -> Result<Serving, Failure> {
-    let workers = workers(alloc, line.workers)?;
+/// How an archive is served, if the options are within their limits. What of its folder isn't
+/// served is counted later.
+fn serving<W: Working>(alloc: Global, world: &W, line: &Server<'_>) -> Result<Serving, Failure> {
+    let workers = workers(alloc, world, line.workers)?;
     let timeout = line.timeout;
     if timeout < 1 || MOST_TIMEOUT < timeout {
         return Err(with_words(
@@ -82,6 +89,7 @@ fn serving(alloc: Global, line: &Server<'_>) -> Result<Serving, Failure> {
         workers,
         timeout,
         log: line.log,
+        unserved: 0,
     })
 }
 
@@ -94,6 +102,27 @@ fn watch(alloc: Global, line: &Server<'_>) -> Result<Option<u32>, Failure> {
         )),
         watch => Ok(watch),
     }
+}
+
+/// The names of the hosts that are answered for, where they are given.
+fn host_names(alloc: Global, line: &Server<'_>) -> Result<Option<Vec<String>>, Failure> {
+    let Some(text) = line.host_names else {
+        return Ok(None);
+    };
+    let mut names = Vec::new(alloc);
+    for name in text.split(',') {
+        let name = name.trim();
+        if name.is_empty() {
+            return Err(with_words(
+                Fault::BadParameters,
+                format!(in alloc;
+                    "--host-names is {text}, and may be names with commas between them"
+                ),
+            ));
+        }
+        names.push(String::from_str(alloc, name)?)?;
+    }
+    Ok(Some(names))
 }
 
 /// Why an archive can't be served on a port.
@@ -109,9 +138,13 @@ pub(crate) fn serve<W: World>(
     alloc: Global,
     world: &mut W,
     line: &Server<'_>,
+    in_words: bool,
 ) -> Result<(), Failure> {
-    let serving = serving(alloc, line)?;
+    let mut serving = serving(alloc, world, line)?;
     let watch = watch(alloc, line)?;
+    if let Some(names) = host_names(alloc, line)? {
+        world.answer_for(names);
+    }
     if line.open_while_serving {
         return serve_opening(alloc, world, line.folder, serving, watch);
     }
@@ -122,8 +155,9 @@ pub(crate) fn serve<W: World>(
     let opened = open(alloc, world, serving.workers, folder);
     world.release();
     let archive = opened?;
-    tell_skipped(alloc, world, &archive)?;
+    tell_skipped(alloc, world, &archive, in_words)?;
     world.tell_left(archive.shelf());
+    serving.unserved = count_unserved(alloc, world, folder)?;
     match world.serve(alloc, folder, archive, serving) {
         Ok(()) => Ok(()),
         Err(fault) => Err(unserved(alloc, world, fault, serving.port)),
@@ -166,6 +200,7 @@ fn serve_opening<W: World>(
     serving: Serving,
     watch: Option<u32>,
 ) -> Result<(), Failure> {
+    let mut serving = serving;
     if let Err(fault) = world.share(alloc, name) {
         return Err(of_world(alloc, world, fault, name, "locked"));
     }
@@ -177,6 +212,7 @@ fn serve_opening<W: World>(
     let names = names_of(alloc, &files)?;
     let archive = Archive::with(folder, Images::none(alloc));
     let meanwhile = Meanwhile { names, watch };
+    serving.unserved = count_unserved(alloc, world, name)?;
     match world.serve_opening(alloc, name, archive, serving, meanwhile) {
         Ok(()) => Ok(()),
         Err(fault) => Err(unserved(alloc, world, fault, serving.port)),
@@ -189,16 +225,33 @@ pub fn served(alloc: Global, connections: u64) -> Result<String, Fault> {
     Ok(line)
 }
 
-/// The line that says where an archive is served.
-pub fn listening(alloc: Global, images: usize, port: u16) -> Result<String, Fault> {
-    let line = format!(in alloc; "jk: {images} images on http://127.0.0.1:{port}/images\n")?;
+/// The words for how many files and folders of a folder aren't served because of their names.
+fn unserved_words(alloc: Global, count: usize) -> Result<String, Fault> {
+    let words = match count {
+        0 => String::new(alloc),
+        count => format!(in alloc; ", {count} not served because of their names")?,
+    };
+    Ok(words)
+}
+
+/// The line that says where an archive is served, and how many files and folders of its folder aren't
+/// because of their names, if there are any.
+pub fn listening(
+    alloc: Global,
+    images: usize,
+    port: u16,
+    unserved: usize,
+) -> Result<String, Fault> {
+    let more = unserved_words(alloc, unserved)?;
+    let line = format!(in alloc; "jk: {images} images on http://127.0.0.1:{port}/images{more}\n")?;
     Ok(line)
 }
 
-/// The line that says where an archive is served whose files wait to be opened.
-pub fn opening(alloc: Global, files: usize, port: u16) -> Result<String, Fault> {
+/// The line that says where an archive is served whose files wait to be opened, with the same number.
+pub fn opening(alloc: Global, files: usize, port: u16, unserved: usize) -> Result<String, Fault> {
+    let more = unserved_words(alloc, unserved)?;
     let line = format!(in alloc;
-        "jk: 0 images on http://127.0.0.1:{port}/images, {files} files are to be opened\n"
+        "jk: 0 images on http://127.0.0.1:{port}/images, {files} files are to be opened{more}\n"
     )?;
     Ok(line)
 }

@@ -1,9 +1,11 @@
 //! `jk check`: an archive is checked, and compared with a list of what it was.
 
 use crate::archive::of_folder;
-use crate::failure::{Failure, of_world};
+use crate::destination::STANDARD_OUTPUT;
+use crate::failure::{Failure, INPUT, called, of_world};
 use crate::status::Status;
 use crate::streams::write;
+use crate::unjudged::tell_unchecked;
 use crate::workers::workers;
 use crate::world::{Streams, World};
 use jk_commands::{BadList, Sum, differences, differences_text, read_sums, sums_text};
@@ -35,7 +37,11 @@ fn read_list(alloc: Global, bytes: &[u8]) -> Result<Result<Vec<Sum>, String>, Fa
     for sum in &sums {
         number = number.saturating_add(1);
         if !is_image_file(sum.name.as_str()) {
-            return Ok(Err(format!(in alloc; "line {number} isn't {LINE_WORDS}")?));
+            let name = sum.name.as_str();
+            let words = format!(in alloc;
+                "line {number}: {name} isn't the name of an image's file, which is 1 to 64 of a to z, 0 to 9, - and _, and .jp2"
+            )?;
+            return Ok(Err(words));
         }
     }
     Ok(Ok(sums))
@@ -44,7 +50,7 @@ fn read_list(alloc: Global, bytes: &[u8]) -> Result<Result<Vec<Sum>, String>, Fa
 /// The files of the list with which an archive is compared; none where the list can't be used,
 /// which is told.
 fn list<W: Streams>(alloc: Global, world: &mut W, name: &str) -> Result<Option<Vec<Sum>>, Failure> {
-    let called = if name == "-" { "standard input" } else { name };
+    let called = called(name, INPUT);
     let bytes = match world.read(alloc, name) {
         Ok(bytes) => bytes,
         Err(fault) => {
@@ -123,14 +129,14 @@ fn write_found<W: Streams>(
         None => {
             let sums = sums_of(alloc, checked, false)?;
             let text = sums_text(alloc, &sums)?;
-            write(alloc, world, "-", text.as_bytes())?;
+            write(alloc, world, STANDARD_OUTPUT, text.as_bytes())?;
             Ok(false)
         }
         Some(before) => {
             let now = sums_of(alloc, checked, true)?;
             let differing = differences(alloc, &before, &now)?;
             let text = differences_text(alloc, &differing)?;
-            write(alloc, world, "-", text.as_bytes())?;
+            write(alloc, world, STANDARD_OUTPUT, text.as_bytes())?;
             Ok(!differing.is_empty())
         }
     }
@@ -162,15 +168,16 @@ fn checked<W: World>(
     }
 }
 
-/// `jk check DIR`: how many workers there are, the list, and then the files. The status says
-/// whether all of them are images and, where there is a list, are as it says.
+/// `jk check DIR`: how many workers there are, the list, and then the files. What isn't checked
+/// because of its name is told. The status says whether all files are images and, where there is a
+/// list, are as it says; and where that is asked, whether all are checked.
 pub(crate) fn check<W: World>(
     alloc: Global,
     world: &mut W,
     line: &Checking<'_>,
-    explain: bool,
+    in_words: bool,
 ) -> Result<Status, Failure> {
-    let workers = workers(alloc, line.workers)?;
+    let workers = workers(alloc, world, line.workers)?;
     let before = match line.against {
         None => None,
         Some(name) => match list(alloc, world, name)? {
@@ -179,8 +186,8 @@ pub(crate) fn check<W: World>(
         },
     };
     let (found, has_others) = checked(alloc, world, workers, line.folder, line.decode)?;
-    let in_words = explain || world.is_terminal();
-    let mut is_bad = has_others;
+    let are_unchecked = tell_unchecked(alloc, world, line.folder)?;
+    let mut is_bad = has_others || (line.strict && are_unchecked);
     for file in &found {
         if tell_file(alloc, world, file, in_words)? {
             is_bad = true;

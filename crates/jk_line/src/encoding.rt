@@ -1,6 +1,7 @@
 //! Running `jk encode`.
 
-use crate::failure::{Failure, of_options};
+use crate::destination::Destination;
+use crate::failure::{Failure, of_image, of_options};
 use crate::keeping;
 use crate::streams::{close, create, finish, open, read, write};
 use crate::workers::workers;
@@ -10,11 +11,24 @@ use jk_commands::{
     encode_rows_from, judge,
 };
 use jk_math::Fault;
-use jk_words::{Encoding, Work};
+use jk_words::{Encoding, Front, Work};
 use std::alloc::Global;
 
+/// A fault of an encoding, with words for it.
+fn of_encoding(alloc: Global, fault: Fault, line: &Encoding<'_>, front: &Front) -> Failure {
+    match fault {
+        Fault::BadParameters => of_options(alloc, fault, &line.options),
+        _ => of_image(alloc, fault, line.input, front),
+    }
+}
+
+/// Where the file of an image goes.
+fn to<'a>(line: &Encoding<'a>) -> Destination<'a> {
+    Destination::beside(line.input, line.output, line.no_clobber)
+}
+
 /// How many components the image of a PGM or PPM file has.
-fn components_in(pixels: &[u8]) -> u16 {
+pub(crate) fn components_in(pixels: &[u8]) -> u16 {
     if pixels.starts_with(b"P6") { 3 } else { 1 }
 }
 
@@ -29,7 +43,7 @@ fn encode_dressed<W: World>(
     keeping::check_container(alloc, &line.options)?;
     let extras = keeping::asked(alloc, world, &line.kept)?;
     let bytes = read(alloc, world, line.input)?;
-    let components = components_in(&bytes);
+    let (components, front) = (components_in(&bytes), Front::of(alloc, &bytes));
     world.begin_work(Work::Encoding, Some(bytes.len() as u64));
     let encoded = if workers > 1 {
         encode_file_dressed_with::<W::Runtime, W::Counter>(
@@ -46,8 +60,14 @@ fn encode_dressed<W: World>(
     };
     world.end_work();
     match encoded {
-        Ok(file) => write(alloc, world, line.output, &file),
-        Err(fault) => Err(keeping::of_encoding(alloc, fault, &extras, components, &line.options)),
+        Ok(file) => write(alloc, world, to(line), &file),
+        Err(Fault::BadParameters) => Err(keeping::of_encoding(
+            alloc,
+            &extras,
+            components,
+            &line.options,
+        )),
+        Err(fault) => Err(of_image(alloc, fault, line.input, &front)),
     }
 }
 
@@ -58,12 +78,13 @@ fn end_output<W: World>(
     line: &Encoding<'_>,
     output: W::Output,
     encoded: Result<(), Fault>,
+    front: &Front,
 ) -> Result<(), Failure> {
-    let finished = finish(alloc, world, line.output, output, encoded.is_ok());
+    let finished = finish(alloc, world, to(line), output, encoded.is_ok());
     match encoded {
         Ok(()) => finished,
         Err(Fault::Shelf) => finished.and(Err(Failure::from(Fault::Shelf))),
-        Err(fault) => Err(of_options(alloc, fault, &line.options)),
+        Err(fault) => Err(of_encoding(alloc, fault, line, front)),
     }
 }
 
@@ -75,11 +96,12 @@ fn encode_whole<W: World>(
     plan: Plan,
 ) -> Result<(), Failure> {
     let bytes = read(alloc, world, line.input)?;
-    let mut output = create(alloc, world, line.output, false)?;
+    let front = Front::of(alloc, &bytes);
+    let mut output = create(alloc, world, to(line), false)?;
     world.begin_work(Work::Encoding, Some(bytes.len() as u64));
     let encoded = encode_file_into(alloc, bytes, plan, &mut output);
     world.end_work();
-    end_output(alloc, world, line, output, encoded)
+    end_output(alloc, world, line, output, encoded, &front)
 }
 
 /// Encodes the whole image of a file by several workers, and then writes it.
@@ -91,6 +113,7 @@ fn encode_whole_by<W: World>(
     plan: Plan,
 ) -> Result<(), Failure> {
     let bytes = read(alloc, world, line.input)?;
+    let front = Front::of(alloc, &bytes);
     world.begin_work(Work::Encoding, Some(bytes.len() as u64));
     let encoded = encode_file_with::<W::Runtime, W::Counter>(
         world.runtime(),
@@ -102,8 +125,8 @@ fn encode_whole_by<W: World>(
     );
     world.end_work();
     match encoded {
-        Ok(file) => write(alloc, world, line.output, &file),
-        Err(fault) => Err(of_options(alloc, fault, &line.options)),
+        Ok(file) => write(alloc, world, to(line), &file),
+        Err(fault) => Err(of_encoding(alloc, fault, line, &front)),
     }
 }
 
@@ -118,7 +141,7 @@ fn encode_read<W: World>(
     size: Option<u64>,
 ) -> Result<(), Failure> {
     let mut input = open(alloc, world, line.input)?;
-    let mut output = create(alloc, world, line.output, false)?;
+    let mut output = create(alloc, world, to(line), false)?;
     world.begin_work(Work::Encoding, size);
     let encoded = encode_rows_from(
         world.runtime(),
@@ -131,9 +154,9 @@ fn encode_read<W: World>(
     );
     world.end_work();
     match close(alloc, world, line.input, input) {
-        Ok(()) => end_output(alloc, world, line, output, encoded),
+        Ok(front) => end_output(alloc, world, line, output, encoded, &front),
         Err(failure) => {
-            let _ = finish(alloc, world, line.output, output, false);
+            let _ = finish(alloc, world, to(line), output, false);
             Err(failure)
         }
     }
@@ -179,7 +202,7 @@ pub(crate) fn encode<W: World>(
     world: &mut W,
     line: &Encoding<'_>,
 ) -> Result<(), Failure> {
-    let workers = workers(alloc, line.workers)?;
+    let workers = workers(alloc, world, line.workers)?;
     let plan = match judge(alloc, &line.options) {
         Ok(plan) => plan,
         Err(fault) => return Err(of_options(alloc, fault, &line.options)),

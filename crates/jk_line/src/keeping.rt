@@ -1,16 +1,17 @@
 //! What a file keeps beside the samples: given to it, listed, and taken out of it.
 
-use crate::failure::{Failure, of_file, of_options, with_words};
+use crate::destination::{Destination, STANDARD_OUTPUT};
+use crate::failure::{Failure, INPUT, called, of_file, of_options, with_words};
 use crate::status::Status;
 use crate::streams::{read, write};
 use crate::world::Streams;
 use jk_beside::{
-    Colour, Extras, Grid, Item, Other, extras_lines, item_in, judge_extras, named_uuid, profile_in,
-    resolution_named,
+    Colour, Extras, Grid, Item, Other, extras_lines, inch_lines, item_in, judge_extras, named_uuid,
+    profile_in, resolution_named,
 };
 use jk_commands::{EncodeOptions, dress_file};
 use jk_math::Fault;
-use jk_words::{Dressing, Kept, Listing, bad_profile, components_told, left_out};
+use jk_words::{Dressing, Kept, Listing, Seen, bad_profile, components_told};
 use std::alloc::Global;
 
 /// How many bytes a file is given at most.
@@ -111,18 +112,17 @@ fn of_kept(alloc: Global, extras: &Extras, components: u16) -> Failure {
     }
 }
 
-/// A fault of an encoding with what the file is to keep, in words.
+/// Why an image isn't encoded with what its file is to keep: BadParameters, in words.
 pub(crate) fn of_encoding(
     alloc: Global,
-    fault: Fault,
     extras: &Extras,
     components: u16,
     options: &EncodeOptions,
 ) -> Failure {
-    if fault == Fault::BadParameters && judge_extras(extras, components).is_err() {
+    if judge_extras(extras, components).is_err() {
         return of_kept(alloc, extras, components);
     }
-    of_options(alloc, fault, options)
+    of_options(alloc, Fault::BadParameters, options)
 }
 
 /// Refuses a bare codestream that is to keep something.
@@ -140,9 +140,9 @@ pub(crate) fn check_container(alloc: Global, options: &EncodeOptions) -> Result<
 }
 
 /// A fault of a file that is given something, in words.
-fn of_dressing(alloc: Global, fault: Fault, extras: &Extras, bytes: &[u8]) -> Failure {
+fn of_dressing(alloc: Global, fault: Fault, extras: &Extras, name: &str, bytes: &[u8]) -> Failure {
     if fault != Fault::BadParameters {
-        return of_file(alloc, fault, left_out(bytes));
+        return of_file(alloc, fault, name, &Seen::of(alloc, bytes), None);
     }
     if bytes.starts_with(&[0xFF, 0x4F]) {
         return with_words(
@@ -164,9 +164,10 @@ pub(crate) fn dress<W: Streams>(
 ) -> Result<(), Failure> {
     let extras = asked(alloc, world, &line.kept)?;
     let bytes = read(alloc, world, line.input)?;
+    let to = Destination::any(line.output, line.no_clobber);
     match dress_file(alloc, &bytes, &extras) {
-        Ok(file) => write(alloc, world, line.output, &file),
-        Err(fault) => Err(of_dressing(alloc, fault, &extras, &bytes)),
+        Ok(file) => write(alloc, world, to, &file),
+        Err(fault) => Err(of_dressing(alloc, fault, &extras, line.input, &bytes)),
     }
 }
 
@@ -184,7 +185,7 @@ fn tell_lack<W: Streams>(
     name: &str,
     what: &str,
 ) -> Result<Status, Failure> {
-    let called = if name == "-" { "standard input" } else { name };
+    let called = called(name, INPUT);
     let words = format!(in alloc; "jk: {called} has no {what}\n")?;
     world.tell(&words);
     Ok(Status::Refused)
@@ -218,9 +219,18 @@ fn take<W: Streams>(
         taken.push(Taken { contents, name })?;
     }
     for part in &taken {
-        write(alloc, world, part.name, part.contents)?;
+        let to = Destination::beside(line.input, part.name, line.no_clobber);
+        write(alloc, world, to, part.contents)?;
     }
     Ok(Status::Done)
+}
+
+/// The lines of what a file keeps, with its resolutions by the inch too.
+fn lines(alloc: Global, bytes: &[u8]) -> Result<String, Fault> {
+    let mut lines = extras_lines(alloc, bytes)?;
+    let inches = inch_lines(alloc, bytes)?;
+    lines.push_str(inches.as_str())?;
+    Ok(lines)
 }
 
 /// `jk extras IN`: what a file keeps is listed, or taken out of it.
@@ -234,11 +244,11 @@ pub(crate) fn extras<W: Streams>(
     if !line.taken.is_none() {
         return take(alloc, world, line, &bytes, &named);
     }
-    match extras_lines(alloc, &bytes) {
+    match lines(alloc, &bytes) {
         Ok(text) => {
-            write(alloc, world, "-", text.as_bytes())?;
+            write(alloc, world, STANDARD_OUTPUT, text.as_bytes())?;
             Ok(Status::Done)
         }
-        Err(fault) => Err(of_file(alloc, fault, left_out(&bytes))),
+        Err(fault) => Err(of_file(alloc, fault, line.input, &Seen::of(alloc, &bytes), None)),
     }
 }

@@ -13,6 +13,8 @@ pub struct Serving {
     pub timeout: u32,
     /// Whether each request is told on standard error.
     pub log: bool,
+    /// How many files and folders of the archive's folder aren't served because of their names.
+    pub unserved: usize,
 }
 
 /// What is opened while it is served.

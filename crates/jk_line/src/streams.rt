@@ -1,18 +1,15 @@
 //! Files and streams of a world, with words where the system refuses them.
 
-use crate::failure::{Failure, of_world};
+use crate::destination::Destination;
+use crate::failure::{Failure, INPUT, called, of_world, with_words};
 use crate::world::Streams;
 use jk_math::Fault;
+use jk_words::Front;
 use std::alloc::Global;
-
-/// What a file is called: its name, or the stream that `-` stands for.
-fn called<'a>(name: &'a str, stream: &'a str) -> &'a str {
-    if name == "-" { stream } else { name }
-}
 
 /// A refused input, in words.
 fn unread<W: Streams>(alloc: Global, world: &W, fault: Fault, name: &str) -> Failure {
-    of_world(alloc, world, fault, called(name, "standard input"), "read")
+    of_world(alloc, world, fault, called(name, INPUT), "read")
 }
 
 /// All bytes of a file, or of standard input.
@@ -39,21 +36,33 @@ pub(crate) fn open<W: Streams>(
     }
 }
 
-/// Ends what was read from its beginning on: whether a read of it was refused.
+/// Ends what was read from its beginning on: its front, where no read of it failed.
 pub(crate) fn close<W: Streams>(
     alloc: Global,
     world: &mut W,
     name: &str,
     input: W::Input,
-) -> Result<(), Failure> {
+) -> Result<Front, Failure> {
     match world.close(input) {
-        Ok(()) => Ok(()),
+        Ok(front) => Ok(front),
         Err(fault) => Err(unread(alloc, world, fault, name)),
     }
 }
 
+/// Whether an output was refused since it is the input.
+fn is_input<W: Streams>(world: &W, fault: Fault, to: Destination<'_>) -> bool {
+    match to.input {
+        Some(input) => fault == Fault::Shelf && world.are_same(input, to.name),
+        None => false,
+    }
+}
+
 /// A refused output, in words.
-fn unwritten<W: Streams>(alloc: Global, world: &W, fault: Fault, name: &str) -> Failure {
+fn unwritten<W: Streams>(alloc: Global, world: &W, fault: Fault, to: Destination<'_>) -> Failure {
+    let name = to.name;
+    if is_input(world, fault, to) {
+        return with_words(fault, format!(in alloc; "{name} is both input and output"));
+    }
     of_world(
         alloc,
         world,
@@ -67,12 +76,12 @@ fn unwritten<W: Streams>(alloc: Global, world: &W, fault: Fault, name: &str) -> 
 pub(crate) fn write<W: Streams>(
     alloc: Global,
     world: &mut W,
-    name: &str,
+    to: Destination<'_>,
     bytes: &[u8],
 ) -> Result<(), Failure> {
-    match world.write(alloc, name, bytes) {
+    match world.write(alloc, to, bytes) {
         Ok(()) => Ok(()),
-        Err(fault) => Err(unwritten(alloc, world, fault, name)),
+        Err(fault) => Err(unwritten(alloc, world, fault, to)),
     }
 }
 
@@ -81,17 +90,17 @@ pub(crate) fn write<W: Streams>(
 pub(crate) fn create<W: Streams>(
     alloc: Global,
     world: &mut W,
-    name: &str,
+    to: Destination<'_>,
     is_held: bool,
 ) -> Result<W::Output, Failure> {
     let created = if is_held {
-        world.create_held(alloc, name)
+        world.create_held(alloc, to)
     } else {
-        world.create(alloc, name)
+        world.create(alloc, to)
     };
     match created {
         Ok(output) => Ok(output),
-        Err(fault) => Err(unwritten(alloc, world, fault, name)),
+        Err(fault) => Err(unwritten(alloc, world, fault, to)),
     }
 }
 
@@ -99,12 +108,12 @@ pub(crate) fn create<W: Streams>(
 pub(crate) fn finish<W: Streams>(
     alloc: Global,
     world: &mut W,
-    name: &str,
+    to: Destination<'_>,
     output: W::Output,
     is_whole: bool,
 ) -> Result<(), Failure> {
     match world.finish(output, is_whole) {
         Ok(()) => Ok(()),
-        Err(fault) => Err(unwritten(alloc, world, fault, name)),
+        Err(fault) => Err(unwritten(alloc, world, fault, to)),
     }
 }

@@ -1,12 +1,19 @@
 //! `jk decode` with a window of a file that is read by places.
 
-use crate::failure::Failure;
+use crate::destination::Destination;
+use crate::failure::{Failure, with_words};
 use crate::streams::{create, finish};
 use crate::world::World;
 use jk_math::Fault;
 use jk_stored::decode_stored_window_into;
-use jk_words::{Decoding, Work};
+use jk_words::{Decoding, Work, cause_of};
 use std::alloc::Global;
+
+/// A fault of a window that is decoded: the image has no PGM or PPM file.
+fn of_stored(alloc: Global, fault: Fault, name: &str) -> Failure {
+    let cause = cause_of(&fault);
+    with_words(fault, format!(in alloc; "{name}: {cause}"))
+}
 
 /// Decodes the window that a line asks for, in all layers, of a file that is read by places: its
 /// headers and what the window needs alone are read.
@@ -23,8 +30,8 @@ pub(crate) fn decode_stored<W: World>(
     }
     let view = line.window?;
     let (stored, size) = world.stored(alloc, line.input)?;
-    let name = line.output;
-    let mut output = match create(alloc, world, name, false) {
+    let to = Destination::beside(line.input, line.output, line.no_clobber);
+    let mut output = match create(alloc, world, to, false) {
         Ok(output) => output,
         Err(failure) => return Some(Err(failure)),
     };
@@ -32,10 +39,10 @@ pub(crate) fn decode_stored<W: World>(
     let decoded = decode_stored_window_into(alloc, stored, size, view, &mut output);
     world.end_work();
     let decoded = decoded?;
-    let finished = finish(alloc, world, name, output, decoded.is_ok());
+    let finished = finish(alloc, world, to, output, decoded.is_ok());
     Some(match decoded {
         Ok(()) => finished,
         Err(Fault::Shelf) => finished.and(Err(Failure::from(Fault::Shelf))),
-        Err(fault) => Err(Failure::from(fault)),
+        Err(fault) => Err(of_stored(alloc, fault, line.input)),
     })
 }

@@ -1,11 +1,13 @@
 //! What a command line works on.
 
+use crate::destination::Destination;
 use crate::serving::{Meanwhile, Serving};
+use crate::unjudged::Unjudged;
 use jk_jobs::Gate;
 use jk_math::Fault;
 use jk_store::{Archive, Shelf};
 use jk_stored::Stored;
-use jk_words::Work;
+use jk_words::{Front, Work};
 use std::alloc::Global;
 use std::fmt::Display;
 use std::io::{self, Read, Write};
@@ -35,39 +37,40 @@ pub trait Streams {
     /// bytes that `read` gives.
     fn open(&mut self, alloc: Global, name: &str) -> Result<Self::Input, Fault>;
 
-    /// Ends what was read from its beginning on. It is refused where a read of it was, but for one that
-    /// was interrupted: such a read is made again.
-    fn close(&mut self, input: Self::Input) -> Result<(), Fault>;
+    /// Ends what was read from its beginning on, and gives its front and how many bytes were read. It
+    /// fails where a read of it did, but for one that was interrupted: such a read is made again.
+    fn close(&mut self, input: Self::Input) -> Result<Front, Fault>;
 
     /// A file that is read by places, and how many bytes it has; none for `-`, or where it can't be
     /// read so, as a pipe can't. What the system says of it then isn't kept: `read` meets it again.
     fn stored(&mut self, alloc: Global, name: &str) -> Option<(Self::Stored, usize)>;
 
-    /// Writes all bytes to a file, or to standard output for `-`.
-    fn write(&mut self, alloc: Global, name: &str, bytes: &[u8]) -> Result<(), Fault>;
+    /// Writes all bytes to a file, or to standard output for `-`. It is refused where the
+    /// destination forbids the file that is there.
+    fn write(&mut self, alloc: Global, to: Destination<'_>, bytes: &[u8]) -> Result<(), Fault>;
 
     /// A file that is to be written in parts, or standard output for `-`. Nothing is opened before
-    /// the first byte is written.
-    fn create(&mut self, alloc: Global, name: &str) -> Result<Self::Output, Fault>;
+    /// the first byte is written: then it is refused as `write` is.
+    fn create(&mut self, alloc: Global, to: Destination<'_>) -> Result<Self::Output, Fault>;
 
     /// A file that is to be written in parts before it is known whether the whole will be there, or
     /// standard output for `-`. Where they can't be written beside its place they are held, and go
     /// out in `finish` if the whole is there: what they go to isn't opened before.
-    fn create_held(&mut self, alloc: Global, name: &str) -> Result<Self::Output, Fault>;
+    fn create_held(&mut self, alloc: Global, to: Destination<'_>) -> Result<Self::Output, Fault>;
 
     /// Ends what was written in parts. Where that is whole, a file takes its place now; else what
     /// has its place stays, if it is a file or if its parts are held. It is refused where a part
     /// couldn't be written or held, or the file can't take its place.
     fn finish(&mut self, output: Self::Output, is_whole: bool) -> Result<(), Fault>;
 
+    /// Whether two names are of one file, links followed; never where one is `-`.
+    fn are_same(&self, one: &str, other: &str) -> bool;
+
     /// Writes a text to standard output.
     fn print<D: Display>(&mut self, text: &D) -> Result<(), Fault>;
 
     /// Writes a text to standard error. Where that fails, nothing can be said of it.
     fn tell<D: Display>(&mut self, text: &D);
-
-    /// Whether standard error is a terminal.
-    fn is_terminal(&self) -> bool;
 
     /// What the system said where it refused the last call.
     fn said(&self) -> Option<io::Error>;
@@ -86,6 +89,9 @@ pub trait Working {
 
     /// Who is told of the code-blocks that workers code.
     fn counter(&self) -> &Self::Counter;
+
+    /// How many threads the machine runs at a time; 1 where it doesn't tell.
+    fn processors(&self) -> usize;
 
     /// From now on nothing is told of how far work is.
     fn be_quiet(&mut self);
@@ -150,6 +156,14 @@ pub trait Folders {
     /// Writes to standard error which files of an archive's folder are left from an adding that was
     /// broken off.
     fn tell_left(&mut self, folder: &Self::Folder);
+
+    /// What stands in an archive's folder and isn't checked or served because of its name, in the
+    /// order of the names: all but the files of images, what stands under the name of one, and what
+    /// begins with a point.
+    fn unjudged(&mut self, alloc: Global, folder: &str) -> Result<Vec<Unjudged>, Fault>;
+
+    /// From now on requests for hosts of these names alone are answered; others are forbidden.
+    fn answer_for(&mut self, names: Vec<String>);
 
     /// Listens on the port, and keeps the archive of this folder and how it is to be served for the
     /// time when the line is done: then the requests of connections are answered, and the lines of

@@ -9,6 +9,7 @@ pub mod RefusedLaws
 pub mod RowLaws
 pub mod DrawingLaws
 pub mod Tails
+pub mod JudgingLaws
 pub mod RasterLaws
 pub mod WrittenLaws
 pub mod SendingLaws

@@ -28,7 +28,7 @@ magic_step true colour d is = absurd cc
 magic_step false true d is = absurd cc
 magic_step false false d is = cc
 
-magic_bad : (bytes : List ℕ) (d : Fault) → magic_at bytes ≡ Err d → d ≡ BadPnm
+pub magic_bad : (bytes : List ℕ) (d : Fault) → magic_at bytes ≡ Err d → d ≡ BadPnm
 unfolding magic_at
 magic_bad bytes d is = magic_step (starts_with nat_eq bytes (magic_text false)) (starts_with nat_eq bytes (magic_text true)) d is
 

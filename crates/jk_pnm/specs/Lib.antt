@@ -6,5 +6,6 @@ pub mod Written
 pub mod Sending
 pub mod Rasters
 pub mod Heads
+pub mod Judging
 pub mod RasterRows
 pub mod Examples

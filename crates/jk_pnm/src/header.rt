@@ -76,7 +76,7 @@ impl Header {
 }
 
 /// Space, TAB, LF, VT, FF or CR.
-fn is_space(byte: u8) -> bool
+pub(crate) fn is_space(byte: u8) -> bool
     ensures { result ≡ is_space byte }
 {
     byte == b' ' || byte == b'\t' || byte == b'\n' || byte == 0x0B || byte == 0x0C || byte == b'\r'
@@ -91,7 +91,7 @@ fn is_line_end(byte: u8) -> bool
 
 /// Whether the file has three components.
 #[tactic(auto, unfolding(crate::specs::Reading::magic_at))]
-fn magic(bytes: &[u8]) -> Result<bool, Fault>
+pub(crate) fn magic(bytes: &[u8]) -> Result<bool, Fault>
     ensures exact { result ≡ magic_at bytes.now }
     ensures long { IfOk result (λ _. 2 ≤ length bytes.now) }
 {
@@ -105,7 +105,7 @@ fn magic(bytes: &[u8]) -> Result<bool, Fault>
 }
 
 /// What follows whitespace and comments, if any.
-fn after_gap(bytes: &[u8]) -> Result<&[u8], Fault>
+pub(crate) fn after_gap(bytes: &[u8]) -> Result<&[u8], Fault>
     ensures { AnswersExactly (λ rest. rest.now) result (after_gap false bytes.now) }
 {
     let mut comment = false;
@@ -135,7 +135,7 @@ fn gap(bytes: &[u8]) -> Result<&[u8], Fault>
 
 /// The number that the digits at the front write, and what follows. A number past every field is
 /// left unfinished.
-fn digits(bytes: &[u8]) -> (u32, &[u8])
+pub(crate) fn digits(bytes: &[u8]) -> (u32, &[u8])
     ensures value { (result.0, result.1.now) ≡ digits_at 0 bytes.now }
 {
     let mut value = 0;
@@ -172,7 +172,7 @@ fn field(bytes: &[u8]) -> Result<(u32, &[u8]), Fault>
 }
 
 /// Of how many bits, 1 to 16, this is the greatest number.
-fn depth(maxval: u32) -> Result<u8, Fault>
+pub(crate) fn depth(maxval: u32) -> Result<u8, Fault>
     requires { maxval ≤ 2 ^ 28 }
     ensures exact { AnswersExactly (λ d. d) result (depth_at maxval) }
     ensures value { IfOk result (λ d. 2 ^ d ≡ maxval + 1) }

@@ -3,6 +3,7 @@
 
 mod header;
 mod heads;
+mod judging;
 mod pieces;
 mod rasters;
 mod reading;
@@ -11,6 +12,7 @@ mod theorems;
 mod writing;
 
 pub use heads::{RasterHead, read_head};
+pub use judging::{NoHeader, no_header};
 pub use pieces::{write_into, write_raster_into};
 pub use rasters::{RasterFrame, raster, write_head_into, write_rasters_into};
 pub use reading::{read, read_owned};

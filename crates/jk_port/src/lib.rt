@@ -2,6 +2,7 @@
 //! source from which a server takes them.
 #![tactic(auto)]
 
+mod hosts;
 mod lingering;
 mod link;
 mod log;
@@ -10,6 +11,7 @@ mod port;
 mod record;
 mod refused_row;
 
+pub use hosts::{HostGate, HostNames};
 pub use log::{Kept, Log};
 pub use pace::Pace;
 pub use port::{Arriving, Port, bind};

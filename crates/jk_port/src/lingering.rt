@@ -1,6 +1,6 @@
 //! What follows the last reply of a connection.
 
-use std::io::{self, Read};
+use std::io::{self, ErrorKind, Read};
 use std::net::{Shutdown, TcpStream};
 use std::time::{Clock, Duration, Instant};
 
@@ -11,7 +11,8 @@ const LAST_WAIT: u64 = 1000;
 const LAST_READS: u64 = 1 << 16;
 
 /// Reads what follows the last reply, up to the client's end, for so long. A connection that is
-/// closed with bytes unread is reset, and the client might lose the reply.
+/// closed with bytes unread is reset, and the client might lose the reply. An interrupted read is made
+/// again.
 pub(crate) fn read_out<R: Clock>(rt: &R, stream: &TcpStream) -> io::Result<()> {
     let mut rest = [0u8; 4096];
     let start = Instant::now(rt)?;
@@ -23,8 +24,11 @@ pub(crate) fn read_out<R: Clock>(rt: &R, stream: &TcpStream) -> io::Result<()> {
             break;
         }
         stream.set_read_timeout(Some(left))?;
-        if (&*stream).read(&mut rest)? == 0 {
-            break;
+        match (&*stream).read(&mut rest) {
+            Ok(0) => break,
+            Ok(_) => {}
+            Err(said) if said.kind() == ErrorKind::Interrupted => {}
+            Err(said) => return Err(said),
         }
     }
     Ok(())

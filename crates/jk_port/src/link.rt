@@ -2,10 +2,11 @@
 
 ghost use Rattle.std.specs.Prelude.{◌<◌, ◌≤◌, ◌^◌, length, IfOk};
 
+use crate::hosts::HostGate;
 use crate::log::Log;
 use crate::pace::Pace;
 use crate::record::{Record, request_text};
-use jk_web::{End, Reply, Request, Witness};
+use jk_web::{End, Reply, Request, Witness, why};
 use std::alloc::{AllocError, Global};
 use std::io::{self, ErrorKind, Read, Write};
 use std::net::TcpStream;
@@ -18,6 +19,8 @@ struct Sending {
     record: Record,
     // How many bytes of it there are.
     size: u64,
+    // Why it isn't what was asked for, if so.
+    why: Option<&'static str>,
 }
 
 /// What changes while a connection lasts.
@@ -92,17 +95,15 @@ impl<R: Clock + Drop> Link<R> {
 }
 
 impl<R: Clock + Wait + Drop> Link<R> {
-    /// Gets ready for a read or a write, which may wait for what its pace says.
+    /// Lets a read or a write wait for so many milliseconds.
     ///
-    /// TimedOut: the request or the reply takes too long.
-    fn begin(&self, is_write: bool) -> io::Result<()> {
-        let now = self.age()? / 1000;
-        let mut guard = self.state.lock(&self.rt);
-        let state = &mut *guard;
-        let wait = state.pace.wait_for(now, is_write);
+    /// TimedOut: for none.
+    fn allow(&self, wait: u64, is_write: bool) -> io::Result<()> {
         if wait == 0 {
             return Err(io::Error::new(ErrorKind::TimedOut, "a request or a reply took too long"));
         }
+        let mut guard = self.state.lock(&self.rt);
+        let state = &mut *guard;
         let longest = Some(Duration::from_millis(wait));
         if is_write && state.write_wait != wait {
             self.stream.set_write_timeout(longest)?;
@@ -113,6 +114,25 @@ impl<R: Clock + Wait + Drop> Link<R> {
             state.read_wait = wait;
         }
         Ok(())
+    }
+
+    /// Gets ready for a read or a write, which may wait for what its pace says. Until when, in
+    /// milliseconds since the connection was taken.
+    ///
+    /// TimedOut: the request or the reply takes too long.
+    fn begin(&self, is_write: bool) -> io::Result<u64> {
+        let now = self.age()? / 1000;
+        let wait = self.state.lock(&self.rt).pace.wait_for(now, is_write);
+        self.allow(wait, is_write)?;
+        Ok(now.saturating_add(wait))
+    }
+
+    /// Gets ready to make a read or a write again that was interrupted, within its time.
+    ///
+    /// TimedOut: its time is over.
+    fn resume(&self, until: u64, is_write: bool) -> io::Result<()> {
+        let now = self.age()? / 1000;
+        self.allow(until.saturating_sub(now), is_write)
     }
 
     /// Keeps what was said of a read or a write that failed.
@@ -131,7 +151,7 @@ impl<R: Clock + Wait + Drop> Link<R> {
     }
 
     /// So many bytes of a reply were sent. What is told of one that was sent whole.
-    fn sent(&self, count: u64) -> io::Result<Option<Record>> {
+    fn sent(&self, count: u64) -> io::Result<Option<Sending>> {
         let mut guard = self.state.lock(&self.rt);
         let state = &mut *guard;
         state.pace.sent(count);
@@ -146,7 +166,7 @@ impl<R: Clock + Wait + Drop> Link<R> {
             return Ok(None);
         }
         state.since = now;
-        Ok(Some(sending.record))
+        Ok(Some(sending))
     }
 
     /// Gives the log a line, behind the time in seconds since 1970.
@@ -172,9 +192,13 @@ impl<R: Clock + Wait + Drop> Link<R> {
         }
     }
 
-    /// Gives the log the line of a request.
-    fn log_record(&self, record: &Record) {
-        self.log_line(record.to_string(self.alloc));
+    /// Gives the log the line of a request, with why it isn't answered as it asks, if so.
+    fn log_sending(&self, sending: &Sending) {
+        let record = &sending.record;
+        self.log_line(match sending.why {
+            Some(why) => format!(in self.alloc; "{record} ({why})"),
+            None => record.to_string(self.alloc),
+        });
     }
 
     /// The connection has ended: the log is given what was sent of a reply that wasn't sent whole,
@@ -189,7 +213,7 @@ impl<R: Clock + Wait + Drop> Link<R> {
             return;
         }
         if let Some(sending) = sending {
-            self.log_record(&sending.record);
+            self.log_sending(&sending);
         }
         match end {
             Some(End::Closed) => {}
@@ -224,14 +248,39 @@ impl<R: Clock + Wait + Drop> Link<R> {
 }
 
 impl<R: Clock + Wait + Drop> Link<R> {
-    /// Reads, and waits for no longer than its pace says.
+    /// Reads, and waits for no longer than its pace says. An interrupted read is made again.
+    fn receive(&self, buf: &mut [u8]) -> io::Result<usize>
+        ensures { IfOk result (λ n. n ≤ length buf.new) }
+    {
+        let until = self.begin(false)?;
+        for _ in self.rt.forever() {
+            match (&self.stream).read(buf) {
+                Err(said) if said.kind() == ErrorKind::Interrupted => self.resume(until, false)?,
+                answer => return answer,
+            }
+        }
+        unreachable!()
+    }
+
+    /// Writes, and waits for no longer than its pace says. An interrupted write is made again.
+    fn send(&self, bytes: &[u8]) -> io::Result<usize>
+        ensures { IfOk result (λ n. n ≤ length bytes.now) }
+    {
+        let until = self.begin(true)?;
+        for _ in self.rt.forever() {
+            match (&self.stream).write(bytes) {
+                Err(said) if said.kind() == ErrorKind::Interrupted => self.resume(until, true)?,
+                answer => return answer,
+            }
+        }
+        unreachable!()
+    }
+
+    /// Reads, and keeps what was said where that failed.
     fn read(&self, buf: &mut [u8]) -> io::Result<usize>
         ensures { IfOk result (λ n. n ≤ length buf.new) }
     {
-        if let Err(said) = self.begin(false) {
-            return Err(self.failed(said));
-        }
-        let count = match (&self.stream).read(buf) {
+        let count = match self.receive(buf) {
             Ok(count) => count,
             Err(said) => return Err(self.failed(said)),
         };
@@ -241,19 +290,16 @@ impl<R: Clock + Wait + Drop> Link<R> {
         }
     }
 
-    /// Writes, and waits for no longer than its pace says.
+    /// Writes, and keeps what was said where that failed.
     fn write(&self, bytes: &[u8]) -> io::Result<usize>
         ensures { IfOk result (λ n. n ≤ length bytes.now) }
     {
-        if let Err(said) = self.begin(true) {
-            return Err(self.failed(said));
-        }
-        let count = match (&self.stream).write(bytes) {
+        let count = match self.send(bytes) {
             Ok(count) => count,
             Err(said) => return Err(self.failed(said)),
         };
         match self.sent(count as u64) {
-            Ok(Some(record)) => self.log_record(&record),
+            Ok(Some(sending)) => self.log_sending(&sending),
             Ok(None) => {}
             Err(said) => return Err(self.failed(said)),
         }
@@ -261,15 +307,61 @@ impl<R: Clock + Wait + Drop> Link<R> {
     }
 }
 
-/// What is read of a connection.
+/// The bytes of a connection, as they come and go.
+#[derive(Clone, Copy)]
+struct Wire<'l, R> {
+    link: &'l Link<R>,
+}
+
+impl<'l, R: Clock + Wait + Drop> Read for Wire<'l, R> {
+    fn read(&mut self, buf: &mut [u8]) -> io::Result<usize> {
+        self.link.read(buf)
+    }
+}
+
+impl<'l, R: Clock + Wait + Drop> Write for Wire<'l, R> {
+    fn write(&mut self, bytes: &[u8]) -> io::Result<usize> {
+        self.link.write(bytes)
+    }
+
+    fn flush(&mut self) -> io::Result<()> {
+        Ok(())
+    }
+}
+
+/// What is read of a connection: where the server has names, requests for these alone.
 #[derive(Drop)]
 pub struct Incoming<R> {
     pub(crate) link: Arc<Link<R>>,
+    pub(crate) gate: Option<HostGate>,
+}
+
+/// Reads what a gate gives on.
+fn read_gated<R: Clock + Wait + Drop>(
+    link: &Link<R>,
+    gate: &mut HostGate,
+    buf: &mut [u8],
+) -> io::Result<usize>
+    ensures { IfOk result (λ n. n ≤ length buf.new) }
+{
+    let was_shut = gate.is_shut();
+    let (mut input, mut output) = (Wire { link }, Wire { link });
+    let count = gate.read(&mut input, &mut output, buf)?;
+    if gate.is_shut() && !was_shut {
+        link.log_line(String::from_str(
+            link.alloc,
+            "connection: a request for another host was answered 403",
+        ));
+    }
+    Ok(count)
 }
 
 impl<R: Clock + Wait + Drop> Read for Incoming<R> {
     fn read(&mut self, buf: &mut [u8]) -> io::Result<usize> {
-        self.link.read(buf)
+        match &mut self.gate {
+            Some(gate) => read_gated(&*self.link, gate, buf),
+            None => self.link.read(buf),
+        }
     }
 }
 
@@ -316,6 +408,7 @@ impl<R: Clock + Wait + Drop> Witness for Listener<R> {
                 micros: 0,
             },
             size: reply.bytes.as_slice().len() as u64,
+            why: why(link.alloc, request.target.as_slice(), reply.status),
         });
     }
 }

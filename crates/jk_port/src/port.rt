@@ -2,23 +2,51 @@
 
 ghost use Rattle.std.specs.Prelude.{◌<◌, ◌^◌};
 
+use crate::hosts::{HostGate, HostNames};
 use crate::lingering::read_out;
 use crate::link::{Incoming, Link, Listener, Outgoing};
 use crate::log::Log;
 use crate::refused_row::Row;
 use jk_web::{Connection, End, Source};
-use std::alloc::Global;
+use std::alloc::{AllocError, Global};
+use std::io::{self, ErrorKind};
 use std::net::{Net, TcpListener, TcpStream};
 use std::sync::atomic::{AtomicU64, Ordering};
 use std::sync::{Arc, Mutex, Wait};
+use std::thread;
 use std::time::Clock;
-use std::{io, thread};
 
 /// A port that is listened on, and its number.
 #[derive(Drop)]
 pub struct Port {
     listener: TcpListener,
     pub number: u16,
+    // The names under which it may be asked, if not every one is right.
+    hosts: Option<Arc<HostNames>>,
+}
+
+impl Port {
+    /// The same port, of which requests for these hosts alone are answered.
+    pub fn for_hosts(self, alloc: Global, hosts: HostNames) -> Result<Port, AllocError> {
+        let Port {
+            listener,
+            number,
+            ..
+        } = self;
+        Ok(Port {
+            listener,
+            number,
+            hosts: Some(Arc::new(alloc, hosts)?),
+        })
+    }
+
+    /// What lets requests of a connection through, if not all are.
+    fn gate(&self, alloc: Global) -> Result<Option<HostGate>, AllocError> {
+        match &self.hosts {
+            Some(hosts) => Ok(Some(HostGate::new(alloc, Arc::try_clone(hosts)?))),
+            None => Ok(None),
+        }
+    }
 }
 
 /// Listens on a port of 127.0.0.1, or on one that is free for 0.
@@ -28,7 +56,11 @@ pub fn bind<R: Net<Listener = TcpListener, Stream = TcpStream>>(
 ) -> io::Result<Port> {
     let listener = TcpListener::bind(rt, ("127.0.0.1", port))?;
     let number = listener.local_addr()?.port();
-    Ok(Port { listener, number })
+    Ok(Port {
+        listener,
+        number,
+        hosts: None,
+    })
 }
 
 /// The connections that come on a port, so many. One that can't be taken counts as one of them.
@@ -81,9 +113,21 @@ impl<R: Clock + Wait + Eprint + Clone + Drop> Arriving<R> {
         self.row.lock(&self.rt).end(&self.rt);
     }
 
+    /// Takes a stream. An interrupted call is made again.
+    fn stream(&self) -> io::Result<TcpStream> {
+        for _ in self.rt.forever() {
+            match self.port.listener.accept() {
+                Ok((stream, _)) => return Ok(stream),
+                Err(said) if said.kind() == ErrorKind::Interrupted => {}
+                Err(said) => return Err(said),
+            }
+        }
+        unreachable!()
+    }
+
     /// Takes a connection.
     fn accept(&self) -> io::Result<Arc<Link<R>>> {
-        let (stream, _) = self.port.listener.accept()?;
+        let stream = self.stream()?;
         let log = match &self.log {
             Some(log) => Some(Arc::try_clone(log)?),
             None => None,
@@ -95,10 +139,11 @@ impl<R: Clock + Wait + Eprint + Clone + Drop> Arriving<R> {
     /// Takes a connection, with its reader, its writer and its witness.
     fn connection(&self) -> io::Result<Connection<Incoming<R>, Outgoing<R>, Listener<R>>> {
         let link = self.accept()?;
+        let gate = self.port.gate(self.alloc)?;
         let output = Arc::try_clone(&link)?;
         let witness = Arc::try_clone(&link)?;
         Ok(Connection {
-            input: Incoming { link },
+            input: Incoming { link, gate },
             output: Outgoing { link: output },
             witness: Listener { link: witness },
         })

@@ -1,6 +1,7 @@
 //! The program's files and standard streams, read and written as a whole.
 
-use jk_files::{Refusal, read_all, read_path, replace_file};
+use jk_files::{Lockable, Ownable, Refusal, Rules, read_all, read_path, replace_file};
+use jk_line::Destination;
 use std::alloc::Global;
 use std::io::{self, Write};
 use std::rt::Files;
@@ -21,11 +22,18 @@ pub(crate) fn read<R: Files + Input + AllocGlobal>(
 pub(crate) fn write<R: Files + Print>(
     rt: &R,
     alloc: Global,
-    name: &str,
+    to: Destination<'_>,
     bytes: &[u8],
-) -> Result<(), Refusal> {
-    if name == "-" {
+) -> Result<(), Refusal>
+where
+    R::File: Lockable + Ownable,
+{
+    if to.name == "-" {
         return io::writer(rt).write_all(bytes).map_err(Refusal::System);
     }
-    replace_file(rt, alloc, name, bytes)
+    let rules = Rules {
+        input: to.input,
+        is_new: to.is_new,
+    };
+    replace_file(rt, alloc, to.name, rules, bytes)
 }

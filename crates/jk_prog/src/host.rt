@@ -7,12 +7,15 @@ use crate::regular::length_of;
 use crate::serving::{Asked, shelves};
 use crate::source::{Source, open_source};
 use crate::stored::{OnDisk, open_stored};
-use jk_files::{Lock, Lockable, Refusal, SharedLock, wait_exclusive, wait_shared};
-use jk_line::{Folders, Meanwhile, Serving, Streams, Work, Working};
+use crate::unjudged::unjudged;
+use jk_files::{
+    Lock, Lockable, Ownable, Refusal, SharedLock, are_same, wait_exclusive, wait_shared,
+};
+use jk_line::{Destination, Folders, Front, Meanwhile, Serving, Streams, Unjudged, Work, Working};
 use jk_math::Fault;
-use jk_serve::{Desk, Opening, Paths, bind};
+use jk_serve::{Desk, HostNames, Opening, Paths, bind};
 use jk_store::{Archive, Folder, image_name};
-use jk_terminal::{Counted, Late, Watched};
+use jk_terminal::{Counted, Late, OutputPath, Watched};
 use std::alloc::Global;
 use std::fmt::Display;
 use std::io::{self, BufWriter};
@@ -20,7 +23,7 @@ use std::net::{Net, TcpListener, TcpStream};
 use std::os::unix::fs::FileExt;
 use std::rt::Files;
 use std::sync::Wait;
-use std::thread::Threads;
+use std::thread::{self, Threads};
 use std::time::Clock;
 
 /// The world of the program: a runtime, who is told of work, the lock that is held, what the system
@@ -33,6 +36,7 @@ pub(crate) struct Host<R: Files> {
     counted: Counted,
     lock: Option<Lock<R::File>>,
     said: Option<io::Error>,
+    hosts: Option<HostNames>,
     asked: Option<Asked<R>>,
 }
 
@@ -46,6 +50,7 @@ impl<R: Files + Drop> Host<R> {
             counted,
             lock: None,
             said: None,
+            hosts: None,
             asked: None,
         }
     }
@@ -76,21 +81,37 @@ impl<R: Files + Drop> Host<R> {
     }
 }
 
-impl<R: Files + Print + Clone + Drop> Host<R> {
+/// Where an output goes, in texts of its own.
+fn output_path(alloc: Global, to: Destination<'_>) -> Result<OutputPath, Fault> {
+    let input = match to.input {
+        Some(input) => Some(String::from_str(alloc, input)?),
+        None => None,
+    };
+    Ok(OutputPath {
+        name: String::from_str(alloc, to.name)?,
+        input,
+        is_new: to.is_new,
+    })
+}
+
+impl<R: Files + Print + Clone + Drop> Host<R>
+where
+    R::File: Lockable + Ownable,
+{
     /// The output of a name, whose bytes go out as they come, or are held where they can't be taken
     /// back.
     fn late(
         &mut self,
         alloc: Global,
-        name: &str,
+        to: Destination<'_>,
         is_held: bool,
     ) -> Result<BufWriter<Late<R>, Global>, Fault> {
-        let name = String::from_str(alloc, name)?;
+        let path = output_path(alloc, to)?;
         let (rt, counted) = (self.rt.clone()?, self.counted.again());
         let late = if is_held {
-            Late::held(rt, alloc, name, counted)
+            Late::held(rt, alloc, path, counted)
         } else {
-            Late::new(rt, alloc, name, counted)
+            Late::new(rt, alloc, path, counted)
         };
         let answer = BufWriter::new(alloc, late);
         self.kept_of_system(answer)
@@ -99,7 +120,7 @@ impl<R: Files + Print + Clone + Drop> Host<R> {
 
 impl<R: Files + Input + Print + Eprint + AllocGlobal + Clone + Drop> Streams for Host<R>
 where
-    R::File: FileExt,
+    R::File: FileExt + Lockable + Ownable,
 {
     type Output = BufWriter<Late<R>, Global>;
 
@@ -116,12 +137,12 @@ where
         length_of(&self.rt, name)
     }
 
-    fn open(&mut self, _alloc: Global, name: &str) -> Result<Source<R::File, R::Reader>, Fault> {
-        let answer = open_source(&self.rt, name);
+    fn open(&mut self, alloc: Global, name: &str) -> Result<Source<R::File, R::Reader>, Fault> {
+        let answer = open_source(&self.rt, alloc, name);
         self.kept_of_system(answer)
     }
 
-    fn close(&mut self, input: Source<R::File, R::Reader>) -> Result<(), Fault> {
+    fn close(&mut self, input: Source<R::File, R::Reader>) -> Result<Front, Fault> {
         self.kept_of_system(input.end())
     }
 
@@ -129,27 +150,35 @@ where
         open_stored(&self.rt, name)
     }
 
-    fn write(&mut self, alloc: Global, name: &str, bytes: &[u8]) -> Result<(), Fault> {
-        let answer = files::write(&self.rt, alloc, name, bytes);
+    fn write(&mut self, alloc: Global, to: Destination<'_>, bytes: &[u8]) -> Result<(), Fault> {
+        let answer = files::write(&self.rt, alloc, to, bytes);
         self.kept(answer)
     }
 
-    fn create(&mut self, alloc: Global, name: &str) -> Result<BufWriter<Late<R>, Global>, Fault> {
-        self.late(alloc, name, false)
+    fn create(
+        &mut self,
+        alloc: Global,
+        to: Destination<'_>,
+    ) -> Result<BufWriter<Late<R>, Global>, Fault> {
+        self.late(alloc, to, false)
     }
 
     fn create_held(
         &mut self,
         alloc: Global,
-        name: &str,
+        to: Destination<'_>,
     ) -> Result<BufWriter<Late<R>, Global>, Fault> {
-        self.late(alloc, name, true)
+        self.late(alloc, to, true)
     }
 
     fn finish(&mut self, output: BufWriter<Late<R>, Global>, is_whole: bool) -> Result<(), Fault> {
         let (late, last) = output.into_parts();
         let answer = late.finish(&last, is_whole);
         self.kept(answer)
+    }
+
+    fn are_same(&self, one: &str, other: &str) -> bool {
+        one != "-" && other != "-" && are_same(&self.rt, one, other)
     }
 
     fn print<D: Display>(&mut self, text: &D) -> Result<(), Fault> {
@@ -159,10 +188,6 @@ where
 
     fn tell<D: Display>(&mut self, text: &D) {
         let _ = self.rt.eprint(text);
-    }
-
-    fn is_terminal(&self) -> bool {
-        self.is_terminal
     }
 
     fn said(&self) -> Option<io::Error> {
@@ -181,6 +206,13 @@ impl<R: Files + Print + Eprint + Clock + Drop + Threads + Wait + Sync> Working f
 
     fn counter(&self) -> &Counted {
         &self.counted
+    }
+
+    fn processors(&self) -> usize {
+        match thread::available_parallelism(&self.rt) {
+            Ok(count) => count.get(),
+            Err(_) => 1,
+        }
     }
 
     fn be_quiet(&mut self) {
@@ -244,6 +276,10 @@ impl<R: Files + Clone + Drop + Net<Listener = TcpListener, Stream = TcpStream>> 
     ) -> Result<Asked<R>, Fault> {
         let answer = bind(&self.rt, serving.port);
         let port = self.kept_of_system(answer)?;
+        let port = match self.hosts.take() {
+            Some(hosts) => port.for_hosts(alloc, hosts)?,
+            None => port,
+        };
         let desk = Desk {
             archive,
             keeper: FolderKeeper::new(self.rt.clone()?, alloc, folder, self.is_terminal)?,
@@ -352,6 +388,15 @@ where
         for name in folder.shelf().left() {
             let _ = eprintln!(rt; "jk: {} was left when adding was broken off", name);
         }
+    }
+
+    fn unjudged(&mut self, alloc: Global, folder: &str) -> Result<Vec<Unjudged>, Fault> {
+        let answer = unjudged(&self.rt, alloc, folder);
+        self.kept(answer)
+    }
+
+    fn answer_for(&mut self, names: Vec<String>) {
+        self.hosts = Some(HostNames::new(names));
     }
 
     fn serve(

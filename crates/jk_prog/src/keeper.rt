@@ -1,6 +1,6 @@
 //! The folder of an archive that is served, and its lock.
 
-use jk_files::{Lock, Lockable, wait_exclusive};
+use jk_files::{Lock, Lockable, try_exclusive, wait_exclusive};
 use jk_math::Fault;
 use jk_serve::Keeper;
 use jk_store::Folder;
@@ -56,6 +56,15 @@ where
         let lock = wait_exclusive(rt, alloc, folder, || tell_waiting(rt, is_terminal, folder))?;
         self.lock = Some(lock);
         Ok(())
+    }
+
+    fn try_lock(&mut self, alloc: Global) -> Result<bool, Fault> {
+        self.lock = try_exclusive(&self.rt, alloc, self.folder.as_str())?;
+        Ok(self.lock.is_some())
+    }
+
+    fn tell_waiting(&self) {
+        tell_waiting(&self.rt, self.is_terminal, self.folder.as_str());
     }
 
     fn release(&mut self) {

@@ -9,6 +9,7 @@ mod regular;
 mod serving;
 mod source;
 mod stored;
+mod unjudged;
 
 use crate::host::Host;
 use crate::serving::{Asked, Lines, serve, serve_opening};

@@ -83,7 +83,8 @@ pub(crate) fn serve<R, S: Shelf, K: Keeper<S>, P: Shelf, F: Shelf + Drop + Send>
 where
     R: Input + Print + Eprint + Clock + Clone + Drop + Threads + Wait + Send + Sync + 'static,
 {
-    let started = listening(alloc, desk.archive.list().len(), port.number)?;
+    let images = desk.archive.list().len();
+    let started = listening(alloc, images, port.number, serving.unserved)?;
     let arriving = arriving(rt, alloc, port, serving)?;
     let all = jk_serve::serve_port(rt, alloc, desk, shelves, &arriving, started.as_str())?;
     tell_served(rt, alloc, all)
@@ -125,7 +126,7 @@ where
     R: Eprint + Clock + Clone + Drop + Threads + Wait + Send + Sync + 'static,
 {
     let (port, serving) = asked;
-    let started = opening(alloc, files.names.len(), port.number)?;
+    let started = opening(alloc, files.names.len(), port.number, serving.unserved)?;
     let arriving = arriving(rt, alloc, port, serving)?;
     let _ = rt.eprint(started.as_str());
     let all = jk_serve::serve_opening(rt, alloc, desk, files, shelves, &arriving, streams)?;

@@ -1,6 +1,8 @@
 //! Files and standard input, read from their beginning on.
 
 use crate::regular::{Regular, known, open_regular};
+use jk_line::Front;
+use std::alloc::Global;
 use std::fs::File;
 use std::io::{self, ErrorKind, Read};
 use std::rt::Files;
@@ -23,40 +25,45 @@ pub(crate) struct Source<F, I> {
     left: u64,
     /// What the system said where it refused a read.
     said: Option<io::Error>,
+    /// How it begins, and how many bytes were read.
+    front: Front,
 }
 
 /// Opens a file, or standard input for `-`. What of a regular file is added to it meanwhile is left
 /// out; all else is read to its end.
 pub(crate) fn open_source<R: Files + Input>(
     rt: &R,
+    alloc: Global,
     name: &str,
 ) -> io::Result<Source<R::File, R::Reader>> {
     if name == "-" {
-        return Ok(Source::new(Origin::Standard(rt.reader()), None));
+        return Ok(Source::new(alloc, Origin::Standard(rt.reader()), None));
     }
     if let Some(Regular { file, length }) = open_regular(rt, name) {
-        return Ok(Source::new(Origin::File(file), known(length)));
+        return Ok(Source::new(alloc, Origin::File(file), known(length)));
     }
-    Ok(Source::new(Origin::File(File::open(rt, name)?), None))
+    Ok(Source::new(alloc, Origin::File(File::open(rt, name)?), None))
 }
 
 impl<F, I> Source<F, I> {
     /// Of which nothing was read, up to this length, if there is one.
-    fn new(origin: Origin<F, I>, length: Option<u64>) -> Source<F, I> {
+    fn new(alloc: Global, origin: Origin<F, I>, length: Option<u64>) -> Source<F, I> {
         Source {
             origin,
             left: length.unwrap_or(u64::MAX),
             said: None,
+            front: Front::new(alloc),
         }
     }
 }
 
 impl<F: Read + Drop, I: Read + Drop> Source<F, I> {
-    /// Ends it. It is refused where a read was, but for one that was interrupted.
-    pub(crate) fn end(self) -> io::Result<()> {
-        match self.said {
+    /// Ends it, and gives its front. It fails where a read did, but for one that was interrupted.
+    pub(crate) fn end(self) -> io::Result<Front> {
+        let Source { said, front, .. } = self;
+        match said {
             Some(said) => Err(said),
-            None => Ok(()),
+            None => Ok(front),
         }
     }
 
@@ -91,6 +98,8 @@ impl<F: Read + Drop, I: Read + Drop> Read for Source<F, I> {
         let given = self.read_origin(&mut room[..most]);
         self.note(&given);
         // No read gives more than there is room for.
-        Ok(given?.min(room.len()))
+        let count = given?.min(room.len());
+        self.front.add(&room[..count]);
+        Ok(count)
     }
 }

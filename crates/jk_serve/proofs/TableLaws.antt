@@ -14,25 +14,25 @@ use Rattle.jk_store.specs.Adding.{judged_name}
 use Rattle.jk_store.specs.Catalogue.{is_listed, most_entries}
 use Rattle.jk_store.specs.declared.entry.Entry.{Entry}
 use Rattle.jk_store.specs.declared.prepared.Prepared.{Prepared}
-use Rattle.jk_store.specs.declared.skipped.Skipped.{Skipped}
+use Rattle.jk_serve.specs.declared.unlisted.Unlisted.{Unlisted}
 use Rattle.jk_hall.specs.Writing.{are_new}
 use Rattle.jk_hall.proofs.Names.{listed-append}
 use Rattle.jk_serve.specs.Tables.{AreWithin, IsListedBeside, IsPassedBeside, ListEach}
 
 -- ---- one image more
 
-pub listed_on : (start now next : List Entry) (p : Prepared) (left all : List Prepared) (done : List Entry) (passed : List Skipped) (e : Entry)
+pub listed_on : (start now next : List Entry) (p : Prepared) (left all : List Prepared) (done : List Entry) (passed : List Unlisted) (e : Entry)
     → IsListedBeside now p e → next ≡ now ++ e ∷ []
-    → ((more : List Entry) (rest : List Skipped) → ListEach now (p ∷ left) more rest → ListEach start all (done ++ more) (passed ++ rest))
-    → (more : List Entry) (rest : List Skipped) → ListEach next left more rest → ListEach start all ((done ++ e ∷ []) ++ more) (passed ++ rest)
+    → ((more : List Entry) (rest : List Unlisted) → ListEach now (p ∷ left) more rest → ListEach start all (done ++ more) (passed ++ rest))
+    → (more : List Entry) (rest : List Unlisted) → ListEach next left more rest → ListEach start all ((done ++ e ∷ []) ++ more) (passed ++ rest)
 listed_on start now next p left all done passed e is same before more rest each =
     subst (λ es. ListEach start all es (passed ++ rest)) (sym (append_assoc done (e ∷ []) more))
     (before (e ∷ more) rest (inl (e, more, is, refl, subst (λ es. ListEach es left more rest) same each)))
 
-pub passed_on : (start now next : List Entry) (p : Prepared) (left all : List Prepared) (done : List Entry) (passed : List Skipped) (k : Skipped)
+pub passed_on : (start now next : List Entry) (p : Prepared) (left all : List Prepared) (done : List Entry) (passed : List Unlisted) (k : Unlisted)
     → IsPassedBeside now p k → next ≡ now
-    → ((more : List Entry) (rest : List Skipped) → ListEach now (p ∷ left) more rest → ListEach start all (done ++ more) (passed ++ rest))
-    → (more : List Entry) (rest : List Skipped) → ListEach next left more rest → ListEach start all (done ++ more) ((passed ++ k ∷ []) ++ rest)
+    → ((more : List Entry) (rest : List Unlisted) → ListEach now (p ∷ left) more rest → ListEach start all (done ++ more) (passed ++ rest))
+    → (more : List Entry) (rest : List Unlisted) → ListEach next left more rest → ListEach start all (done ++ more) ((passed ++ k ∷ []) ++ rest)
 passed_on start now next p left all done passed k is same before more rest each =
     subst (λ ks. ListEach start all (done ++ more) ks) (sym (append_assoc passed (k ∷ []) rest))
     (before more (k ∷ rest) (inr (k, rest, is, refl, subst (λ es. ListEach es left more rest) same each)))
@@ -42,8 +42,8 @@ no_items [] none = refl
 no_items (x ∷ xs) none = absurd (omega (arith, none))
 
 -- all are judged
-pub all_judged : (start now : List Entry) (all : List Prepared) (done : List Entry) (passed : List Skipped)
-    → ((more : List Entry) (rest : List Skipped) → ListEach now [] more rest → ListEach start all (done ++ more) (passed ++ rest)) → ListEach start all done passed
+pub all_judged : (start now : List Entry) (all : List Prepared) (done : List Entry) (passed : List Unlisted)
+    → ((more : List Entry) (rest : List Unlisted) → ListEach now [] more rest → ListEach start all (done ++ more) (passed ++ rest)) → ListEach start all done passed
 all_judged start now all done passed before =
     subst (λ es. ListEach start all es passed) (append-nil done) (subst (λ ks. ListEach start all (done ++ []) ks) (append-nil passed) (before [] [] (refl, refl)))
 
@@ -105,7 +105,7 @@ new_first : (some more : List Entry) (e : Entry) → is_listed some (string_byte
 new_first some more e fresh on = ap (λ (b : Bool). not b && are_new (some ++ e ∷ []) more) fresh ∙ on
 
 -- what is listed has names that none of those has that are within
-pub new_within : (images : List Prepared) (there some more : List Entry) (passed : List Skipped) → AreWithin some there → ListEach there images more passed → are_new some more ≡ true
+pub new_within : (images : List Prepared) (there some more : List Entry) (passed : List Unlisted) → AreWithin some there → ListEach there images more passed → are_new some more ≡ true
 new_within [] there some more passed within each = ap (are_new some) each.0
 new_within (p ∷ images) there some more passed within (inl h) =
     let e = h.0 in

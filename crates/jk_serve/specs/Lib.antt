@@ -1,4 +1,5 @@
 pub mod OperatorLines
 pub mod Operating
+pub mod Asking
 pub mod Tables
 pub mod Examples

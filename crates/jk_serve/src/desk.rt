@@ -15,8 +15,15 @@ use std::sync::{Arc, Wait};
 
 /// Who keeps others from the folder of an archive while an image is added to it.
 pub trait Keeper<S> {
-    /// Takes the folder's lock alone. Shelf: another holds it, or it can't be had.
+    /// Takes the folder's lock alone, and waits for it. Shelf: another holds it, or it can't be had.
     fn lock(&mut self, alloc: Global) -> Result<(), Fault>;
+
+    /// Takes the folder's lock alone, if no other holds it, and whether it is taken. Shelf: it can't be
+    /// had.
+    fn try_lock(&mut self, alloc: Global) -> Result<bool, Fault>;
+
+    /// Tells that another holds the lock, and that it is waited for.
+    fn tell_waiting(&self);
 
     /// Lets the lock go.
     fn release(&mut self);

@@ -2,6 +2,7 @@
 //! operator followed, who adds images meanwhile.
 #![tactic(auto)]
 
+mod asked;
 mod desk;
 mod distant_desk;
 mod finder;
@@ -15,12 +16,13 @@ mod post;
 mod serving;
 mod serving_opening;
 mod table;
+mod unlisted;
 mod waiting;
 
 pub use desk::{Desk, Keeper};
 pub use finder::Finder;
 pub use jk_files::Stamp;
-pub use jk_port::{Arriving, Kept, Log, Pace, Port, Record, bind};
+pub use jk_port::{Arriving, HostGate, HostNames, Kept, Log, Pace, Port, Record, bind};
 pub use jk_store::{added_text, refused_text};
 pub use opener::Opening;
 pub use operating::operate;

@@ -5,6 +5,7 @@ use crate::finder::Finder;
 use crate::owner::Owner;
 use crate::post::{Post, Turn};
 use crate::table::Table;
+use crate::unlisted::Unlisted;
 use crate::waiting::{Next, Waiting};
 use jk_files::Stamp;
 use jk_math::Fault;
@@ -40,6 +41,28 @@ fn since<R: Clock>(rt: &R, start: Option<Instant>) -> Duration {
     }
 }
 
+/// What is known of a file that isn't listed, which was told.
+#[derive(Clone, Copy)]
+struct Known {
+    // How the file was when it was read.
+    stamp: Option<Stamp>,
+    // The fault for which it isn't listed.
+    fault: Option<Fault>,
+}
+
+impl Known {
+    /// Whether it may be listed without a change of the file: it couldn't be read, or memory was
+    /// refused.
+    fn may_pass(&self) -> bool {
+        matches!(self.fault, Some(Fault::Shelf) | Some(Fault::Memory(_)))
+    }
+
+    /// Whether the same is known.
+    fn is_as(&self, stamp: Option<Stamp>, fault: Fault) -> bool {
+        self.stamp == stamp && self.fault == Some(fault)
+    }
+}
+
 /// Who opens files: what is known of their names, and what was opened and isn't published yet.
 #[derive(Drop)]
 pub(crate) struct Opener<N> {
@@ -49,8 +72,8 @@ pub(crate) struct Opener<N> {
     waiting: Waiting,
     // Those that are listed.
     done: BTreeSet<String>,
-    // Those that aren't listed, which was told, and how their files were when they were read.
-    told: BTreeMap<String, Option<Stamp>>,
+    // Those that aren't listed, which was told, and those that were opened.
+    told: BTreeMap<String, Known>,
     // What was opened, and since when it waits to be published.
     ready: Vec<Prepared>,
     gathered: Option<Instant>,
@@ -91,7 +114,8 @@ impl<N: Finder + Drop> Opener<N> {
         let mut told = BTreeMap::new(alloc);
         for name in passed {
             let stamp = finder.stamp(alloc, name.as_str());
-            told.insert(name, stamp)?;
+            let fault = Some(Fault::Shelf);
+            told.insert(name, Known { stamp, fault })?;
         }
         Ok(Opener {
             alloc,
@@ -173,13 +197,38 @@ impl<N: Finder + Drop> Opener<N> {
         }
     }
 
-    /// Tells why a file isn't listed, and keeps how it was.
-    fn refuse(&mut self, name: String, stamp: Option<Stamp>, fault: Fault) -> Result<(), Fault> {
-        self.finder.tell(name.as_str(), fault);
-        if matches!(fault, Fault::Shelf | Fault::Memory(_)) {
-            self.fail(fault);
+    /// What is known of a file.
+    fn known(&self, name: &str) -> Option<Known> {
+        match self.told.get(name) {
+            Some(known) => Some(*known),
+            None => None,
         }
-        self.told.insert(name, stamp)?;
+    }
+
+    /// Keeps why a file isn't listed, and how it was. It is told, unless the same was told before.
+    fn refuse(&mut self, name: String, stamp: Option<Stamp>, fault: Fault) -> Result<(), Fault> {
+        let is_told = match self.known(name.as_str()) {
+            Some(known) => known.is_as(stamp, fault),
+            None => false,
+        };
+        if !is_told {
+            self.finder.tell(name.as_str(), fault);
+            if matches!(fault, Fault::Shelf | Fault::Memory(_)) {
+                self.fail(fault);
+            }
+        }
+        let fault = Some(fault);
+        self.told.insert(name, Known { stamp, fault })?;
+        Ok(())
+    }
+
+    /// Keeps how a file was that was opened.
+    fn note(&mut self, name: String, stamp: Option<Stamp>) -> Result<(), Fault> {
+        let fault = match self.known(name.as_str()) {
+            Some(known) if known.stamp == stamp => known.fault,
+            _ => None,
+        };
+        self.told.insert(name, Known { stamp, fault })?;
         Ok(())
     }
 
@@ -202,7 +251,7 @@ impl<N: Finder + Drop> Opener<N> {
                     self.gathered = Instant::now(rt).ok();
                 }
                 self.ready.push(prepared)?;
-                self.told.insert(name, stamp)?;
+                self.note(name, stamp)?;
             }
             Err(fault) => self.refuse(name, stamp, fault)?,
         }
@@ -226,21 +275,27 @@ impl<N: Finder + Drop> Opener<N> {
         self.pass_over(passed)
     }
 
+    /// Tells why a file that was opened isn't listed, unless an image of its name was added meanwhile.
+    fn pass(&mut self, file: Skipped) -> Result<(), Fault> {
+        let Skipped { name, fault } = file;
+        if matches!(fault, Fault::NameTaken) {
+            return Ok(());
+        }
+        self.done.remove(name.as_str());
+        let stamp = match self.known(name.as_str()) {
+            Some(known) => known.stamp,
+            None => None,
+        };
+        self.refuse(name, stamp, fault)
+    }
+
     /// Tells which files weren't listed.
-    fn pass_over(&mut self, passed: Vec<Skipped>) -> Result<(), Fault> {
+    fn pass_over(&mut self, passed: Vec<Unlisted>) -> Result<(), Fault> {
         let mut beyond = Vec::new(self.alloc);
-        for file in passed {
-            match file.fault {
-                // It was added meanwhile.
-                Fault::NameTaken => {}
-                Fault::Limit => beyond.push(file.name)?,
-                fault => {
-                    self.done.remove(file.name.as_str());
-                    self.finder.tell(file.name.as_str(), fault);
-                    if matches!(fault, Fault::Memory(_)) {
-                        self.fail(fault);
-                    }
-                }
+        for unlisted in passed {
+            match unlisted {
+                Unlisted::Beyond(name) => beyond.push(name)?,
+                Unlisted::Refused(file) => self.pass(file)?,
             }
         }
         if let Some(name) = beyond.first() {
@@ -283,19 +338,34 @@ impl<N: Finder + Drop> Opener<N> {
         }
     }
 
-    /// Lets those of the names wait that are new, or whose files have changed since it was told that
-    /// they aren't listed. Of those that are gone nothing is known any more.
+    /// Lets a name wait, if it isn't known why its file isn't listed, if the file has changed, or if
+    /// the fault may have passed. What is still known of it.
+    fn look_again(&mut self, name: &str) -> Result<Option<Known>, Fault> {
+        let known = self.known(name);
+        let left = match known {
+            Some(known) if self.finder.stamp(self.alloc, name) == known.stamp => Some(known),
+            _ => None,
+        };
+        let is_settled = match left {
+            Some(known) => !known.may_pass(),
+            None => false,
+        };
+        if !is_settled {
+            self.waiting.add(String::from_str(self.alloc, name)?)?;
+        }
+        Ok(left)
+    }
+
+    /// Looks at the files of these names but those that are listed. Of those that are gone nothing is
+    /// known any more.
     fn look_at(&mut self, names: Vec<String>) -> Result<(), Fault> {
         let mut told = BTreeMap::new(self.alloc);
         for name in names {
             if self.done.contains(name.as_str()) {
                 continue;
             }
-            match self.told.remove(name.as_str()) {
-                Some(stamp) if self.finder.stamp(self.alloc, name.as_str()) == stamp => {
-                    told.insert(name, stamp)?;
-                }
-                _ => self.waiting.add(name)?,
+            if let Some(known) = self.look_again(name.as_str())? {
+                told.insert(name, known)?;
             }
         }
         self.told = told;

@@ -5,7 +5,7 @@ ghost use Rattle.std.specs.String.{string_bytes};
 ghost use Rattle.jk_serve.specs.Operating.{IsAdded, IsRefused, Grows};
 
 use crate::desk::Keeper;
-use crate::post::{Post, Request};
+use crate::post::{Outcome, Post, Request};
 use crate::table::Table;
 use jk_math::Fault;
 use jk_store::{Prepared, Shelf};
@@ -34,7 +34,8 @@ impl<S: Shelf, K: Keeper<S>> Owner<S, K> {
         self.table.add(rt, alloc, prepared)
     }
 
-    /// Adds an image that is prepared, and publishes it. The folder is locked meanwhile.
+    /// Adds an image that is prepared, and publishes it. The folder is locked, and isn't any longer
+    /// then.
     fn add<R: Wait>(&mut self, rt: &R, alloc: Global, prepared: Prepared) -> Result<(), Fault>
         ensures ok { OnOk result (IsAdded (string_bytes prepared.name) self.old.table.archive self.new.table.archive
             self.old.table.writer self.new.table.writer) }
@@ -43,10 +44,20 @@ impl<S: Shelf, K: Keeper<S>> Owner<S, K> {
         ensures grows { Grows self.old.table.archive self.new.table.archive
             self.old.table.writer self.new.table.writer }
     {
-        self.keeper.lock(alloc)?;
         let entered = self.enter(rt, alloc, prepared);
         self.keeper.release();
         entered
+    }
+
+    /// Takes the folder's lock, unless another holds it.
+    fn lock(&mut self, alloc: Global, is_first: bool) -> Result<Outcome, Fault> {
+        if self.keeper.try_lock(alloc)? {
+            return Ok(Outcome::Done);
+        }
+        if is_first {
+            self.keeper.tell_waiting();
+        }
+        Ok(Outcome::Busy)
     }
 
     /// Does what the operator asks.
@@ -55,12 +66,14 @@ impl<S: Shelf, K: Keeper<S>> Owner<S, K> {
         rt: &R,
         alloc: Global,
         request: Request,
-    ) -> Result<(), Fault> {
+    ) -> Result<Outcome, Fault> {
         match request {
-            Request::Look(name) => self.table.look(alloc, &self.keeper, name.as_str()),
-            Request::Add(prepared) => self.add(rt, alloc, prepared),
-            Request::Settle => self.table.settle(rt),
+            Request::Lock { is_first } => return self.lock(alloc, is_first),
+            Request::Look(name) => self.table.look(alloc, &self.keeper, name.as_str())?,
+            Request::Add(prepared) => self.add(rt, alloc, prepared)?,
+            Request::Settle => self.table.settle(rt)?,
         }
+        Ok(Outcome::Done)
     }
 
     /// Does what the operator asks, until the lines have ended.

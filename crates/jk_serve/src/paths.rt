@@ -3,13 +3,14 @@
 ghost use Rattle.std.specs.Prelude.{◌≡◌, ◌<◌};
 ghost use Rattle.jk_store.specs.Counting.{last_count, Counts};
 
-use jk_files::{Refusal, read_path};
+use jk_files::{Refusal, read_file};
 use jk_math::Fault;
 use jk_store::{Failures, Shelf};
 use std::alloc::Global;
 use std::rt::Files;
 
-/// The files of the system, each by its path, which are read alone: other calls fail.
+/// The regular files of the system, each by its path, links followed, which are read alone: other calls
+/// fail.
 #[derive(Drop)]
 pub struct Paths<R> {
     rt: R,
@@ -59,7 +60,7 @@ impl<R: Files + Drop> Shelf for Paths<R> {
 
     fn read(&mut self, alloc: Global, name: &str) -> Result<Vec<u8>, Fault> {
         self.failures.ready()?;
-        let answer = read_path(&self.rt, alloc, name);
+        let answer = read_file(&self.rt, alloc, name);
         self.answered(answer)
     }
 
@@ -80,6 +81,11 @@ impl<R: Files + Drop> Shelf for Paths<R> {
     }
 
     fn rename(&mut self, _alloc: Global, _from: &str, _to: &str) -> Result<(), Fault> {
+        self.failures.ready()?;
+        Err(self.failures.fail())
+    }
+
+    fn place(&mut self, _alloc: Global, _from: &str, _to: &str) -> Result<bool, Fault> {
         self.failures.ready()?;
         Err(self.failures.fail())
     }

@@ -1,14 +1,11 @@
 //! What is told to who has an archive while its files are opened.
 
+use crate::asked::Asked;
 use jk_math::Fault;
 use jk_store::Prepared;
 use std::alloc::Global;
-use std::mem;
 use std::sync::{Condvar, CondvarTimeouts, Mutex, Wait};
 use std::time::{Clock, Duration};
-
-/// How many names are kept at most.
-const MOST: usize = 16;
 
 /// How many seconds are waited for a thread to begin.
 const PATIENCE: u64 = 10;
@@ -18,10 +15,20 @@ const PATIENCE: u64 = 10;
 pub(crate) enum Request {
     /// Whether an image of this name may be added.
     Look(String),
-    /// To add this image, and to publish it.
+    /// To take the folder's lock, unless another holds it: then it is told, if this is the first try.
+    Lock { is_first: bool },
+    /// To add this image, for which the lock was taken, to publish it, and to let the lock go.
     Add(Prepared),
     /// To publish what waits.
     Settle,
+}
+
+/// What became of what an operator asked.
+#[derive(Clone, Copy, Debug, PartialEq, Eq)]
+pub(crate) enum Outcome {
+    Done,
+    /// Another holds the folder's lock.
+    Busy,
 }
 
 /// What has come.
@@ -38,10 +45,9 @@ pub(crate) struct Turn {
 /// What is kept.
 #[derive(Drop)]
 struct Kept {
-    // In the order in which they were asked for, each once.
-    names: Vec<String>,
+    names: Asked,
     request: Option<Request>,
-    answer: Option<Result<(), Fault>>,
+    answer: Option<Result<Outcome, Fault>>,
     // Whether those who tell have begun, and whether they are waited for no longer.
     has_begun: bool,
     is_given_up: bool,
@@ -51,30 +57,17 @@ struct Kept {
 }
 
 impl Kept {
-    /// Whether a name is kept.
-    fn has(&self, name: &str) -> bool {
-        for kept in &self.names {
-            if kept.as_str() == name {
-                return true;
-            }
-        }
-        false
-    }
-
-    /// Keeps a name that isn't kept yet, if there is room for it, and memory.
+    /// Keeps a name, if there is memory for it.
     fn put(&mut self, alloc: Global, name: &str) {
-        if MOST <= self.names.len() || self.has(name) {
-            return;
-        }
         if let Ok(name) = String::from_str(alloc, name) {
-            let _ = self.names.push(name);
+            let _ = self.names.put(name);
         }
     }
 
     /// What has come, which is kept no longer.
     fn turn(&mut self, alloc: Global) -> Turn {
         Turn {
-            names: mem::replace(&mut self.names, Vec::new(alloc)),
+            names: self.names.take(alloc),
             request: self.request.take(),
             is_served: self.is_served,
         }
@@ -98,7 +91,7 @@ impl Post {
         Post {
             alloc,
             kept: Mutex::new(Kept {
-                names: Vec::new(alloc),
+                names: Asked::none(alloc),
                 request: None,
                 answer: None,
                 has_begun: false,
@@ -156,7 +149,7 @@ impl Post {
     }
 
     /// Asks who has the archive, and waits for the answer.
-    pub(crate) fn ask<R: Wait>(&self, rt: &R, request: Request) -> Result<(), Fault> {
+    pub(crate) fn ask<R: Wait>(&self, rt: &R, request: Request) -> Result<Outcome, Fault> {
         let mut kept = self.kept.lock(rt);
         kept.request = Some(request);
         self.told.notify_all();
@@ -167,7 +160,7 @@ impl Post {
     }
 
     /// Answers what the operator asked.
-    pub(crate) fn answer<R: Wait>(&self, rt: &R, answer: Result<(), Fault>) {
+    pub(crate) fn answer<R: Wait>(&self, rt: &R, answer: Result<Outcome, Fault>) {
         let mut kept = self.kept.lock(rt);
         kept.answer = Some(answer);
         drop(kept);

@@ -41,9 +41,15 @@ struct Others {
     operated: Result<(), Fault>,
 }
 
+/// Has what waits published.
+fn settle<R: Wait>(rt: &R, post: &Post) -> Result<(), Fault> {
+    post.ask(rt, Request::Settle)?;
+    Ok(())
+}
+
 /// Follows the operator's lines, and answers them. Where that ends before the input does, it is
 /// told.
-fn operate_there<R: Wait + Eprint, P: Shelf + Drop, I: Read + Drop, O: Write + Drop>(
+fn operate_there<R: Wait + Clock + Eprint, P: Shelf + Drop, I: Read + Drop, O: Write + Drop>(
     rt: &R,
     alloc: Global,
     post: &Post,
@@ -54,10 +60,14 @@ fn operate_there<R: Wait + Eprint, P: Shelf + Drop, I: Read + Drop, O: Write + D
         mut input,
         mut output,
     } = operator;
-    let mut desk = DistantDesk { post, paths };
+    let mut desk = DistantDesk {
+        clock: rt,
+        post,
+        paths,
+    };
     let mut followed = follow_all(rt, alloc, &mut desk, &mut (), &mut input, &mut output);
     if followed.is_ok() {
-        followed = post.ask(rt, Request::Settle);
+        followed = settle(rt, post);
     }
     post.end_lines(rt);
     if let Err(fault) = &followed {
@@ -69,7 +79,7 @@ fn operate_there<R: Wait + Eprint, P: Shelf + Drop, I: Read + Drop, O: Write + D
 /// Attends to connections, and meanwhile follows the operator's lines, if who has the archive still
 /// waits for that.
 fn attend<
-    R: Threads + Wait + Eprint + Sync,
+    R: Threads + Wait + Clock + Eprint + Sync,
     P: Shelf + Drop,
     F: Shelf + Drop + Send,
     C: Source + Sync,

@@ -1,18 +1,19 @@
 //! An archive, and what is published of it, which change in one step.
 
-ghost use Rattle.std.specs.Prelude.{◌≡◌, ◌++◌, [], length, map, OnOk, OnErr, IfOk, IfErr};
+ghost use Rattle.std.specs.Prelude.{◌≡◌, ◌++◌, ◌∷◌, [], length, map, OnOk, OnErr, IfOk, IfErr};
 ghost use Rattle.std.specs.Arc.{arc_value};
 ghost use Rattle.std.specs.String.{string_bytes};
 ghost use Rattle.jk_math.specs.Memory.{IsMemory};
 ghost use Rattle.jk_hall.specs.Writing.{list, waits};
 ghost use Rattle.jk_store.specs.Catalogue.{is_listed};
 ghost use Rattle.jk_serve.specs.Operating.{entries_of, IsAdded, IsRefused, Grows};
-ghost use Rattle.jk_serve.specs.Tables.{AreWithin, AreListed, ListEach};
+ghost use Rattle.jk_serve.specs.Tables.{AreWithin, AreListed, ListEach, IsListedBeside, IsPassedBeside};
 
 use crate::desk::Keeper;
+use crate::unlisted::Unlisted;
 use jk_hall::Writer;
 use jk_math::Fault;
-use jk_store::{Archive, Entry, Prepared, Shelf, Skipped};
+use jk_store::{Archive, Entry, Prepared, Shelf};
 use std::alloc::{AllocError, Global};
 use std::sync::{Arc, Wait};
 
@@ -42,7 +43,22 @@ pub(crate) fn entries<S: Shelf>(
 #[derive(Drop)]
 struct Judged {
     entries: Vec<Arc<Entry>>,
-    passed: Vec<Skipped>,
+    passed: Vec<Unlisted>,
+}
+
+/// Lists an image that is prepared, or says why it isn't listed: as `Archive::list_prepared` refuses
+/// it. An `Err` changes nothing.
+fn list_one<S: Shelf>(archive: &mut Archive<S>, image: Prepared) -> Result<Arc<Entry>, Unlisted>
+    ensures ok { IfOk result (λ e. IsListedBeside (entries_of archive.old) image (arc_value e)) }
+    ensures listed { IfOk result (λ e. entries_of archive.new ≡ entries_of archive.old ++ arc_value e ∷ []) }
+    ensures passed { IfErr result (IsPassedBeside (entries_of archive.old) image) }
+    ensures same { OnErr result (entries_of archive.new ≡ entries_of archive.old) }
+{
+    let images = archive.list().len();
+    match archive.list_prepared(&image) {
+        Ok(entry) => Ok(entry),
+        Err(fault) => Err(Unlisted::new(image.into_name(), fault, images)),
+    }
 }
 
 /// Lists images that are prepared in an archive, one after another, and passes over those that
@@ -61,12 +77,9 @@ fn list_each<S: Shelf>(
     let mut entries = Vec::with_capacity(alloc, images.len())?;
     let mut passed = Vec::with_capacity(alloc, images.len())?;
     for image in images {
-        match archive.list_prepared(&image) {
+        match list_one(archive, image) {
             Ok(entry) => entries.push_reserved(entry),
-            Err(fault) => {
-                let name = image.into_name();
-                passed.push_reserved(Skipped { name, fault });
-            }
+            Err(unlisted) => passed.push_reserved(unlisted),
         }
     }
     Ok(Judged { entries, passed })
@@ -105,7 +118,7 @@ impl<S: Shelf> Table<S> {
         rt: &R,
         alloc: Global,
         images: Vec<Prepared>,
-    ) -> Result<Vec<Skipped>, Fault>
+    ) -> Result<Vec<Unlisted>, Fault>
         ensures ok { IfOk result (λ passed. AreListed images.items passed.items self.old.archive self.new.archive
             self.old.writer self.new.writer) }
         ensures err { IfErr result IsMemory }

@@ -1,9 +1,11 @@
 //! Names of images whose files wait to be opened.
 
-ghost use Rattle.std.specs.Prelude.{◌≡◌, true, IfSome, IfNone};
+ghost use Rattle.std.specs.Prelude.{◌≡◌, ◌∷◌, ℕ, List, true, map, IfSome, IfNone, IsSomeAnd, OnOk};
 ghost use Rattle.std.specs.BTreeSet.{contains_text};
 ghost use Rattle.std.specs.String.{string_bytes};
+ghost use Rattle.jk_serve.specs.Asking.{asked_too, asked_all};
 
+use crate::asked::Asked;
 use jk_math::Fault;
 use std::alloc::{AllocError, Global};
 use std::collections::BTreeSet;
@@ -21,7 +23,7 @@ pub(crate) struct Next {
 #[derive(Drop)]
 pub(crate) struct Waiting {
     names: BTreeSet<String>,
-    asked: Vec<String>,
+    asked: Asked,
 }
 
 impl Waiting {
@@ -29,7 +31,7 @@ impl Waiting {
     pub(crate) fn none(alloc: Global) -> Waiting {
         Waiting {
             names: BTreeSet::new(alloc),
-            asked: Vec::new(alloc),
+            asked: Asked::none(alloc),
         }
     }
 
@@ -39,12 +41,29 @@ impl Waiting {
         Ok(())
     }
 
-    /// These were asked for. Those that don't wait are passed over.
-    pub(crate) fn ask(&mut self, names: Vec<String>) -> Result<(), AllocError> {
+    /// This was asked for. One that doesn't wait is passed over.
+    fn ask_one(&mut self, name: String) -> Result<(), AllocError>
+        ensures asked { OnOk result (map string_bytes self.new.asked.names.items
+            ≡ asked_too (contains_text self.old.names) (string_bytes name)
+            (map string_bytes self.old.asked.names.items)) }
+        ensures names { self.new.names ≡ self.old.names }
+    {
+        if self.names.contains(name.as_str()) {
+            return self.asked.put(name);
+        }
+        Ok(())
+    }
+
+    /// These were asked for. Those that don't wait are passed over, and of the others the last 16 are
+    /// kept, each once.
+    pub(crate) fn ask(&mut self, names: Vec<String>) -> Result<(), AllocError>
+        ensures asked { OnOk result (map string_bytes self.new.asked.names.items
+            ≡ asked_all (contains_text self.old.names) (map string_bytes names.items)
+            (map string_bytes self.old.asked.names.items)) }
+        ensures names { OnOk result (self.new.names ≡ self.old.names) }
+    {
         for name in names {
-            if self.names.contains(name.as_str()) {
-                self.asked.push(name)?;
-            }
+            self.ask_one(name)?;
         }
         Ok(())
     }
@@ -52,6 +71,10 @@ impl Waiting {
     /// The next name, which waits no longer.
     pub(crate) fn next(&mut self) -> Option<Next>
         ensures waited { IfSome result (λ n. contains_text self.old.names (string_bytes n.name) ≡ true) }
+        // What was asked for first is next, if it waits.
+        ensures asked { (n : List ℕ) (rest : List (List ℕ)) → map string_bytes self.old.asked.names.items ≡ n ∷ rest
+            → contains_text self.old.names n ≡ true
+            → IsSomeAnd result (λ r. (string_bytes r.name ≡ n) × (r.is_asked ≡ true)) }
     {
         if let Some(name) = self.asked_first() {
             return Some(Next {
@@ -69,12 +92,11 @@ impl Waiting {
     /// The name that was asked for first, if it still waits: then it waits no longer.
     fn asked_first(&mut self) -> Option<String>
         ensures some { IfSome result (λ n. contains_text self.old.names (string_bytes n) ≡ true) }
+        ensures first { (n : List ℕ) (rest : List (List ℕ)) → map string_bytes self.old.asked.names.items ≡ n ∷ rest
+            → contains_text self.old.names n ≡ true → IsSomeAnd result (λ r. string_bytes r ≡ n) }
         ensures none { IfNone result (self.new.names ≡ self.old.names) }
     {
-        if self.asked.is_empty() {
-            return None;
-        }
-        let name = self.asked.remove(0);
+        let name = self.asked.next()?;
         if self.names.remove(name.as_str()) {
             return Some(name);
         }

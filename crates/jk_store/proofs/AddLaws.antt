@@ -58,6 +58,12 @@ pub left_unwritten : {S : Type 0} (keeps : S → Files → Type 0) (s : S) (t ow
 left_unwritten keeps s t own made e files other kept =
     (without t files, kept, record { others = λ n a b. apart (bytes_eq t n) None (files n) a; here = inl (apart (bytes_eq t own) None (files own) other) })
 
+-- where all others stay, whatever is answered
+pub left_stayed : {S : Type 0} (keeps : S → Files → Type 0) (s : S) (t own : List ℕ) (made : Result (List ℕ) Fault) (r : Result (Unit {0}) Fault) (files : Files) → bytes_eq t own ≡ false
+    → keeps s (without t files) → IfErr r (λ e. (left : Files) × keeps s left × IsLeftByAdd t own made e files left)
+left_stayed keeps s t own made (Ok x) files other kept = tt
+left_stayed keeps s t own made (Err e) files other kept = left_unwritten keeps s t own made e files other kept
+
 -- where it couldn't get its own name
 pub left_unrenamed : {S : Type 0} (keeps : S → Files → Type 0) (s : S) (t own bytes : List ℕ) (e : Fault) (files : Files) → bytes_eq t own ≡ false
     → keeps s (with_file t bytes files) ⊎ ((e ≡ Shelf) × keeps s (with_file own bytes (without t (with_file t bytes files))))

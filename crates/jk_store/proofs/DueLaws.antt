@@ -36,6 +36,12 @@ module _ (due : Result (List ℕ) Fault) (file : List ℕ) (is : due ≡ Ok file
   cause_due J U (Err e) (inl memory) = inl memory
   cause_due J U (Err e) (inr failed) = inr (inr (inr (failed.0, (file, is), failed.1)))
 
+  pub cause_placed_due : {A : Type 0} (J : Fault → Type 0) (W : Fault → Type 0) (r : Result A Fault) → IfErr r (λ e. IsMemory e ⊎ W e)
+      → IfErr r (λ e. IsMemory e ⊎ (J e ⊎ ((due ≡ Err e) ⊎ (((f : List ℕ) × (due ≡ Ok f)) × W e))))
+  cause_placed_due J W (Ok x) h = tt
+  cause_placed_due J W (Err e) (inl memory) = inl memory
+  cause_placed_due J W (Err e) (inr why) = inr (inr (inr ((file, is), why)))
+
 pub passes_too : {A : Type 0} (May More : Fault → Type 0) (r : Result A Fault) (before after : ℕ) → Passes May r before after → Passes (λ e. May e ⊎ More e) r before after
 passes_too May More (Ok x) before after h = h
 passes_too May More (Err e) before after (inl may) = inl (inl may.0, may.1)

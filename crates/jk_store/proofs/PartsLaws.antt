@@ -57,6 +57,10 @@ digest_is i file there =
     let at : 0 + i ≡ i = omega arith in
     slice_get-get_or (map f (range_with_len 0 n)) i [] long ∙ ap Some (get_or-map-range_with_len f 0 n i i [] there at)
 
+-- a file has as many parts as there are digests of them
+pub as_many : (digests : List (List ℕ)) (file : List ℕ) → digests ≡ part_digests file → length digests ≡ part_count (length file)
+as_many digests file is = ap length is ∙ length-map-range_with_len (λ i. sha256 (file_part i file)) 0 (part_count (length file))
+
 -- a stretch of a file that lies in the part that begins at `first`
 pub stretch_is : (file : List ℕ) (n first at stop : ℕ) → first ≡ n * part_size → first ≤ at → at ≤ stop → stop ≤ first + part_size
     → slice_of (file_part n file) (at - first, stop - first) ≡ slice_of file (at, stop)

@@ -94,11 +94,12 @@ caused U (Ok x) before after h why = tt
 caused U (Err e) before after (inl memory) why = inl memory.0
 caused U (Err e) before after (inr failed) why = inr (failed.0, why failed.0)
 
-pub cause_stored : {A : Type 0} (due : Result (List ℕ) Fault) (file : List ℕ) → due ≡ Ok file → (U : Type 0) (r : Result A Fault) → IfErr r (λ e. IsMemory e ⊎ ((e ≡ Shelf) × U))
-    → IfErr r (λ e. IsMemory e ⊎ ((due ≡ Err e) ⊎ ((e ≡ Shelf) × ((f : List ℕ) × (due ≡ Ok f)) × U)))
-cause_stored due file is U (Ok x) h = tt
-cause_stored due file is U (Err e) (inl memory) = inl memory
-cause_stored due file is U (Err e) (inr failed) = inr (inr (failed.0, (file, is), failed.1))
+-- why a file that is due isn't stored
+pub cause_placed : {A : Type 0} (due : Result (List ℕ) Fault) (file : List ℕ) → due ≡ Ok file → (W : Fault → Type 0) (r : Result A Fault) → IfErr r (λ e. IsMemory e ⊎ W e)
+    → IfErr r (λ e. IsMemory e ⊎ ((due ≡ Err e) ⊎ (((f : List ℕ) × (due ≡ Ok f)) × W e)))
+cause_placed due file is W (Ok x) h = tt
+cause_placed due file is W (Err e) (inl memory) = inl memory
+cause_placed due file is W (Err e) (inr why) = inr (inr ((file, is), why))
 
 -- where a file is due, no fault is
 pub not_due : {A : Type 0} (P : Type 0) (due : Result A Fault) (x : A) (e : Fault) → due ≡ Ok x → due ≡ Err e → P

@@ -4,6 +4,7 @@ use Rattle.std.specs.Str.{bytes_eq}
 use Rattle.jk_math.specs.Answer.{◌>>=◌, refuse}
 use Rattle.jk_math.specs.declared.fault.Fault.{Fault}
 use Rattle.jk_math.specs.declared.fault.Fault.TheVariants.{BadName, NameTaken, Limit, BadParameters, Shelf}
+use Rattle.jk_math.specs.Memory.{IsMemory}
 use Rattle.jk_math.specs.Picture.{Picture}
 use Rattle.jk_extras.specs.declared.values.Extras.{Extras}
 use Rattle.jk_extras.specs.Extras.{is_extras}
@@ -17,6 +18,8 @@ use Rattle.jk_store.specs.Files.{Files}
 use Rattle.jk_store.specs.Names.{is_good_name}
 use Rattle.jk_store.specs.Catalogue.{is_listed, most_entries}
 use Rattle.jk_store.specs.declared.entry.Entry.{Entry}
+use Rattle.jk_store.specs.declared.naming.Naming.{Naming}
+use Rattle.jk_store.specs.declared.naming.Naming.TheVariants.{Replacing, New}
 
 abbrev pub is_raw : Container → Bool
 is_raw Raw = true
@@ -101,8 +104,38 @@ pub record IsLeftByAdd (temporary own : List ℕ) (made : Result (List ℕ) Faul
   pub others : (n : List ℕ) → bytes_eq temporary n ≡ false → bytes_eq own n ≡ false → left n ≡ files n
   pub here : (left own ≡ files own) ⊎ ((file : List ℕ) × (e ≡ Shelf) × (made ≡ Ok file) × (left own ≡ Some file))
 
+-- All files but one are as they were.
+abbrev pub IsAllBut : List ℕ → Files → Files → Type 0
+IsAllBut name files left = (n : List ℕ) → bytes_eq name n ≡ false → left n ≡ files n
+
+-- The shelf keeps all files that it kept, but for one.
+abbrev pub KeepsAllBut : {S : Type 0} → (S → Files → Type 0) → List ℕ → Files → S → Type 0
+KeepsAllBut keeps name files new = (left : Files) × keeps new left × IsAllBut name files left
+
 -- The file couldn't be written under its temporary name, or that couldn't become its own.
 abbrev pub IsUnstored : {S : Type 0} → (unwritten : S → List ℕ → S → Type 0)
     → (unrenamed : S → List ℕ → List ℕ → S → Type 0) → (temporary own : List ℕ) → S → S → Type 0
 IsUnstored {S} unwritten unrenamed temporary own old new = unwritten old temporary new
     ⊎ ((mid : S) × unrenamed mid temporary own new)
+
+-- Something had the own name, or the file couldn't be written under its temporary name, or that
+-- couldn't become its own.
+abbrev pub IsUnplaced : {S : Type 0} → (unwritten : S → List ℕ → S → Type 0)
+    → (unplaced : S → List ℕ → List ℕ → S → Type 0) → (taken : S → List ℕ → S → Type 0)
+    → (temporary own : List ℕ) → S → S → Fault → Type 0
+IsUnplaced {S} unwritten unplaced taken temporary own old new e = ((e ≡ NameTaken) × ((mid : S) × taken mid own new))
+    ⊎ ((e ≡ Shelf) × IsUnstored unwritten unplaced temporary own old new)
+
+-- what may stop the storing of a file beside a shelf that fails
+abbrev pub Stops : Naming → Fault → Type 0
+Stops Replacing e = IsMemory e
+Stops New e = IsMemory e ⊎ (e ≡ NameTaken)
+
+-- why a file isn't stored
+abbrev pub WhyUnstored : {S : Type 0} → Naming → (unwritten : S → List ℕ → S → Type 0)
+    → (unrenamed unplaced : S → List ℕ → List ℕ → S → Type 0) → (taken : S → List ℕ → S → Type 0)
+    → (temporary own : List ℕ) → S → S → Fault → Type 0
+WhyUnstored Replacing unwritten unrenamed unplaced taken temporary own old new e = IsMemory e
+    ⊎ ((e ≡ Shelf) × IsUnstored unwritten unrenamed temporary own old new)
+WhyUnstored New unwritten unrenamed unplaced taken temporary own old new e = IsMemory e
+    ⊎ IsUnplaced unwritten unplaced taken temporary own old new e

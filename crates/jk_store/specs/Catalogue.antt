@@ -18,7 +18,7 @@ use Rattle.jk_code.specs.Meaning.{MeansLayers}
 use Rattle.jk_code.specs.Windows.{IsWindowOf}
 use Rattle.jk_store.specs.Files.{Files}
 use Rattle.jk_store.specs.Names.{is_good_name, file_name}
-use Rattle.jk_store.specs.Parts.{part_digests}
+use Rattle.jk_store.specs.Parts.{part_count, part_digests}
 use Rattle.jk_store.specs.Counting.{last_count}
 use Rattle.jk_store.specs.declared.entry.Entry.{Entry}
 
@@ -87,10 +87,11 @@ entry_of (e ∷ entries) n = cond (bytes_eq (string_bytes e.name) n) (Some e) (e
 abbrev pub IsFileOf : {S : Type 0} → (S → List ℕ → List ℕ → S → Type 0) → Entry → S → List ℕ → S → Type 0
 IsFileOf gave e old file new = gave old (file_name (string_bytes e.name)) file new × (sha256 file ≡ e.digest)
 
--- The shelf gave a file under the name of the entry that has another digest.
+-- The shelf gave a file under the name of the entry, or told its length, that has another digest or
+-- another number of parts.
 abbrev pub IsOtherFile : {S : Type 0} → (S → List ℕ → List ℕ → S → Type 0) → Entry → S → S → Type 0
 IsOtherFile gave e old new = (file : List ℕ) × gave old (file_name (string_bytes e.name)) file new
-    × (sha256 file ≡ e.digest → ⊥)
+    × ((sha256 file ≡ e.digest) × (part_count (length file) ≡ length e.parts.items) → ⊥)
 
 -- Bytes are the file of a window of a file, where the index is that of the file; and they mean what
 -- it means there.

@@ -49,6 +49,10 @@ Unwritten s n t = s.failures.count ≡ last_count
 abbrev pub Unrenamed : MemoryShelf → List ℕ → List ℕ → MemoryShelf → Type 0
 Unrenamed s from to t = (held s from ≡ None) ⊎ (s.failures.count ≡ last_count)
 
+-- It has a file of a name.
+abbrev pub Taken : MemoryShelf → List ℕ → MemoryShelf → Type 0
+Taken s n t = (b : List ℕ) × (held s n ≡ Some b)
+
 -- Two shelves hold the same files.
 abbrev pub HoldSame : MemoryShelf → MemoryShelf → Type 0
 HoldSame s t = (m : List ℕ) → held t m ≡ held s m

@@ -1,6 +1,6 @@
 //! Entries of an archive.
 
-ghost use Rattle.std.specs.Prelude.{◌≡◌, ◌⊎◌, ℕ, List, Some, Ok, Err, IfOk, IfErr, OnOk, true, false};
+ghost use Rattle.std.specs.Prelude.{◌≡◌, ◌⊎◌, ℕ, List, length, Some, Ok, Err, IfOk, IfErr, OnOk, true, false};
 ghost use Rattle.std.specs.String.{string_bytes};
 ghost use Rattle.sha2.specs.Sha256.{sha256};
 ghost use Rattle.jk_math.specs.Memory.{IsMemory};
@@ -12,11 +12,13 @@ ghost use Rattle.jk_store.specs.Files.{Files};
 ghost use Rattle.jk_store.specs.Names.{file_name};
 ghost use Rattle.jk_store.specs.Catalogue.{IsFileOf, IsOtherFile, IsCutFrom, IsWindowGiven, WasForeign, Passes};
 ghost use Rattle.jk_store.specs.Catalogue.{StandsFor, stored};
+ghost use Rattle.jk_store.specs.Parts.{part_count};
 ghost use Rattle.jk_store.specs.PartsGiven.{GivenPart, ReadsParts, IsOtherPart, IsCutOfParts, AreKnownByDigest};
 
 use crate::assembling::assemble;
 use crate::hashed::HashedParts;
 use crate::names;
+use crate::parts::PART_SIZE;
 use crate::shelf::Shelf;
 use jk_digest::sha256;
 use jk_math::Fault;
@@ -42,9 +44,24 @@ pub(crate) fn has_digest(bytes: &[u8], digest: &[u8; 32]) -> bool
 }
 
 impl Entry {
-    /// The file of the image.
+    /// Whether a shelf tells a length of the file with which it has another number of parts.
+    fn has_other_length<S: Shelf>(&self, alloc: Global, shelf: &S, name: &str) -> bool
+        requires { name.now ≡ file_name (string_bytes self.now.name) }
+        ensures other { result ≡ true → IsOtherFile S.gave self.now shelf.now shelf.now }
+        ensures steady { (files : Files) (b : List ℕ) → S.keeps shelf.now files
+            → files (file_name (string_bytes self.now.name)) ≡ Some b
+            → length self.now.parts.items ≡ part_count (length b) → result ≡ false }
+    {
+        match shelf.length(alloc, name) {
+            Some(length) => length.div_ceil(PART_SIZE as u64) != self.parts.len() as u64,
+            None => false,
+        }
+    }
+
+    /// The file of the image. Where the shelf tells its length, a file that has another number of
+    /// parts isn't read.
     ///
-    /// Changed: the shelf gave a file with another digest.
+    /// Changed: the shelf gave a file with another digest, or told such a length.
     pub fn whole<S: Shelf>(&self, alloc: Global, shelf: &mut S) -> Result<Vec<u8>, Fault>
         ensures given { IfOk result (λ f. IsFileOf S.gave self.now shelf.old f.items shelf.new) }
         // A file that the shelf keeps under the name is what is given.
@@ -52,10 +69,17 @@ impl Entry {
             → files (file_name (string_bytes self.now.name)) ≡ Some b
             → IfOk result (λ f. f.items ≡ b) }
         ensures changed { result ≡ Err Fault.Changed → IsOtherFile S.gave self.now shelf.old shelf.new }
+        // Where the shelf keeps the file of which the entry was made, it isn't told to have changed.
+        ensures steady { (files : Files) (b : List ℕ) → S.keeps shelf.old files
+            → files (file_name (string_bytes self.now.name)) ≡ Some b
+            → StandsFor self.now (stored (string_bytes self.now.name) b) → result ≡ Err Fault.Changed → ⊥ }
         ensures kept { (files : Files) → S.keeps shelf.old files → S.keeps shelf.new files }
         ensures counts { Passes (λ e. IsMemory e ⊎ (e ≡ Changed)) result (S.failed shelf.old) (S.failed shelf.new) }
     {
         let name = names::file_name(alloc, self.name.as_str())?;
+        if self.has_other_length(alloc, &*shelf, name.as_str()) {
+            return Err(Fault::Changed);
+        }
         let file = shelf.read(alloc, name.as_str())?;
         if !has_digest(&file, &self.digest) {
             return Err(Fault::Changed);

@@ -19,8 +19,8 @@ use std::rt::Files;
 ///
 /// Its list has the files of images alone: regular files that can be opened, whose name is
 /// `NAME.jp2` with a good NAME. What else stands under such a name, and what was left while a file
-/// was written, it keeps to be told. What `write` and `rename` return behind is stored, as far as
-/// the system keeps its word: a file before its name.
+/// was written, it keeps to be told. When `write`, `rename` and `place` return, the system has stored
+/// what they did, as far as it keeps its word: a file before its name.
 #[derive(Drop)]
 pub struct Folder<R> {
     rt: R,
@@ -154,6 +154,11 @@ impl<R: Files + Drop> Shelf for Folder<R> {
         self.answered(alloc, name, answer)
     }
 
+    fn length(&self, alloc: Global, name: &str) -> Option<u64> {
+        let stamp = jk_files::stamp_of(&self.rt, alloc, self.path.as_str(), name).ok()?;
+        Some(stamp.length)
+    }
+
     fn read_at(
         &mut self,
         alloc: Global,
@@ -182,6 +187,12 @@ impl<R: Files + Drop> Shelf for Folder<R> {
     fn rename(&mut self, alloc: Global, from: &str, to: &str) -> Result<(), Fault> {
         self.failures.ready()?;
         let answer = jk_files::rename(&self.rt, alloc, self.path.as_str(), from, to);
+        self.answered(alloc, from, answer)
+    }
+
+    fn place(&mut self, alloc: Global, from: &str, to: &str) -> Result<bool, Fault> {
+        self.failures.ready()?;
+        let answer = jk_files::rename_new(&self.rt, alloc, self.path.as_str(), from, to);
         self.answered(alloc, from, answer)
     }
 

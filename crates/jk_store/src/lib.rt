@@ -17,6 +17,7 @@ mod judging;
 mod listing;
 mod memory;
 mod names;
+mod naming;
 mod opening;
 mod opening_with;
 mod parts;

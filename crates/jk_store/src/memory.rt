@@ -1,9 +1,9 @@
 //! A shelf in memory.
 
 ghost use Rattle.std.specs.Prelude.{◌≡◌, ℕ, List, [], take, drop, Some, None, IfOk, OnOk, OnErr, IfErr};
-ghost use Rattle.std.specs.Option.{option_map};
+ghost use Rattle.std.specs.Option.{option_map, is_some};
 ghost use Rattle.jk_math.specs.Memory.{IsMemory};
-ghost use Rattle.jk_store.specs.Memories.{KeepsFiles, Gave, GaveAt, Lists, Unlisted, CannotRead, Unwritten, Unrenamed, HoldSame};
+ghost use Rattle.jk_store.specs.Memories.{KeepsFiles, Gave, GaveAt, Lists, Unlisted, CannotRead, Unwritten, Unrenamed, Taken, HoldSame};
 ghost use Rattle.jk_store.specs.Memories.{HoldsInstead, held, names_of};
 
 use crate::failures::Failures;
@@ -70,6 +70,13 @@ impl MemoryShelf {
         }
     }
 
+    /// Whether a file has a name.
+    fn has(&self, name: &str) -> bool
+        ensures { result ≡ is_some (held self.now name.now) }
+    {
+        self.files.get(name).is_some()
+    }
+
     /// Puts a file under a name.
     fn put(&mut self, alloc: Global, name: &str, bytes: Vec<u8>) -> Result<(), Fault>
         ensures ok { OnOk result (HoldsInstead self.old name.now (Some bytes.items) self.new) }
@@ -107,6 +114,10 @@ impl Shelf for MemoryShelf {
 
     ghost unrenamed = { Unrenamed };
 
+    ghost unplaced = { Unrenamed };
+
+    ghost taken = { Taken };
+
     ghost failed = { λ s. s.failures.count };
 
     fn list(&mut self, alloc: Global) -> Result<Vec<String>, Fault> {
@@ -124,6 +135,11 @@ impl Shelf for MemoryShelf {
             Some(bytes) => Ok(bytes),
             None => Err(self.failures.fail()),
         }
+    }
+
+    fn length(&self, _alloc: Global, name: &str) -> Option<u64> {
+        let bytes = self.files.get(name)?;
+        Some(bytes.len() as u64)
     }
 
     fn read_at(
@@ -156,6 +172,23 @@ impl Shelf for MemoryShelf {
             self.take(from);
         }
         Ok(())
+    }
+
+    fn place(&mut self, alloc: Global, from: &str, to: &str) -> Result<bool, Fault> {
+        self.failures.ready()?;
+        let bytes = match self.copy(alloc, from)? {
+            Some(bytes) => bytes,
+            None => return Err(self.failures.fail()),
+        };
+        if self.has(to) {
+            if from != to {
+                self.take(from);
+            }
+            return Ok(false);
+        }
+        self.put(alloc, to, bytes)?;
+        self.take(from);
+        Ok(true)
     }
 
     fn failures(&self) -> u64 {

@@ -11,13 +11,14 @@ ghost use Rattle.jk_store.specs.Files.{Files, with_file, without};
 ghost use Rattle.jk_store.specs.Names.{is_good_name, file_name, temporary_name};
 ghost use Rattle.jk_store.specs.Counting.{Counts};
 ghost use Rattle.jk_store.specs.Catalogue.{is_listed, image_at, most_entries, StandsFor, IsEntryOf, stored, Passes};
-ghost use Rattle.jk_store.specs.Adding.{judged_name, IsLeftByAdd, IsUnstored};
+ghost use Rattle.jk_store.specs.Adding.{judged_name, IsLeftByAdd, IsUnstored, IsUnplaced, WhyUnstored, Stops, KeepsAllBut};
+ghost use Rattle.jk_store.specs.declared.naming.Naming.TheVariants.{New};
 ghost use Rattle.jk_store.specs.Showing.{ShowImages, StandForImages, MayBeMade};
 ghost use Rattle.jk_catalogue.specs.Images.{Image as Shown};
 ghost use Rattle.jk_catalogue.specs.Images.{Within};
 ghost use Rattle.std.specs.Str.{bytes_eq};
 ghost use Rattle.jk_math.specs.declared.fault.Fault.{Fault};
-ghost use Rattle.jk_math.specs.declared.fault.Fault.TheVariants.{Shelf as ShelfFault};
+ghost use Rattle.jk_math.specs.declared.fault.Fault.TheVariants.{NameTaken, Shelf as ShelfFault};
 ghost use Rattle.jk_store.specs.Preparing.{due_file, due_beside, ready_bytes};
 
 use crate::adding::judge_beside;
@@ -25,6 +26,7 @@ use crate::archive::Archive;
 use crate::encoded::Encoded;
 use crate::entry::Entry;
 use crate::names;
+use crate::naming::Naming;
 use crate::opening::image_index;
 use crate::parts::part_digests;
 use crate::prepared::{Prepared, Ready};
@@ -76,7 +78,8 @@ fn file_names(alloc: Global, name: &str) -> Result<FileNames, Fault>
     Ok(FileNames { temporary, own })
 }
 
-/// Writes a file under its temporary name, and then gives it its own.
+/// Writes a file under its temporary name, and then gives it its own, in place of any file that has
+/// it.
 fn store<S: Shelf>(
     alloc: Global,
     shelf: &mut S,
@@ -102,26 +105,66 @@ fn store<S: Shelf>(
     shelf.rename(alloc, names.temporary.as_str(), names.own.as_str())
 }
 
+/// Writes a file under its temporary name, and then gives it its own, if nothing has it.
+///
+/// NameTaken: something has it.
+fn store_new<S: Shelf>(
+    alloc: Global,
+    shelf: &mut S,
+    names: &FileNames,
+    bytes: &[u8],
+) -> Result<(), Fault>
+    ensures ok { (files : Files) → S.keeps shelf.old files
+        → OnOk result
+        (S.keeps shelf.new
+        (with_file (string_bytes names.now.own) bytes.now (without (string_bytes names.now.temporary) files))) }
+    // Whatever it answers, no other file is lost or replaced.
+    ensures stays { (files : Files) → S.keeps shelf.old files
+        → S.keeps shelf.new (without (string_bytes names.now.temporary) files) }
+    ensures free { bytes_eq (string_bytes names.now.temporary) (string_bytes names.now.own) ≡ false
+        → (files : Files) (b : List ℕ) → S.keeps shelf.old files → files (string_bytes names.now.own) ≡ Some b
+        → OnOk result ⊥ }
+    ensures cause { IfErr result
+        (λ e. WhyUnstored New S.unwritten S.unrenamed S.unplaced S.taken (string_bytes names.now.temporary)
+        (string_bytes names.now.own) shelf.old shelf.new e) }
+    ensures counts { Passes (Stops New) result (S.failed shelf.old) (S.failed shelf.new) }
+{
+    shelf.write(alloc, names.temporary.as_str(), bytes)?;
+    if shelf.place(alloc, names.temporary.as_str(), names.own.as_str())? {
+        Ok(())
+    } else {
+        Err(Fault::NameTaken)
+    }
+}
+
 /// Stores the file of an image.
 fn store_named<S: Shelf>(
     alloc: Global,
     shelf: &mut S,
     name: &str,
     bytes: &[u8],
+    naming: Naming,
 ) -> Result<(), Fault>
     ensures holds { (files : Files) → S.keeps shelf.old files
         → OnOk result
         (S.keeps shelf.new (with_file (file_name name.now) bytes.now (without (temporary_name name.now) files))) }
-    ensures cause { IfErr result (λ e. IsMemory e
-        ⊎ ((e ≡ ShelfFault) × IsUnstored S.unwritten S.unrenamed (temporary_name name.now) (file_name name.now)
-        shelf.old shelf.new)) }
+    ensures cause { IfErr result
+        (λ e. WhyUnstored naming S.unwritten S.unrenamed S.unplaced S.taken (temporary_name name.now)
+        (file_name name.now) shelf.old shelf.new e) }
     ensures left { (files : Files) → S.keeps shelf.old files
         → IfErr result (λ e. (left : Files) × S.keeps shelf.new left
         × IsLeftByAdd (temporary_name name.now) (file_name name.now) (Ok bytes.now) e files left) }
-    ensures counts { Passes IsMemory result (S.failed shelf.old) (S.failed shelf.new) }
+    ensures stays { naming ≡ New → (files : Files) → S.keeps shelf.old files
+        → KeepsAllBut S.keeps (temporary_name name.now) files shelf.new }
+    ensures free { naming ≡ New → (files : Files) (b : List ℕ) → S.keeps shelf.old files
+        → files (file_name name.now) ≡ Some b → OnOk result ⊥ }
+    ensures counts { Passes (Stops naming) result (S.failed shelf.old) (S.failed shelf.new) }
 {
     let names = file_names(alloc, name)?;
-    store(alloc, shelf, &names, bytes)
+    match naming {
+        Naming::Replacing => store(alloc, shelf, &names, bytes),
+        Naming::New => store_new(alloc, shelf, &names, bytes),
+    }
 }
 
 impl Encoded {
@@ -142,11 +185,11 @@ impl Encoded {
     }
 
     /// Puts the file on a shelf, where it is written under its temporary name and then gets its own,
-    /// in the place of any other. No archive lists it yet. Who holds the lock of the folder has
-    /// judged the name by its files before.
+    /// if nothing has that. No archive lists it yet. Who holds the lock of the folder has judged the
+    /// name by its files before; a file that came since is not replaced.
     ///
-    /// The first of these: BadName; why there is no file; Shelf. After a refusal the temporary file
-    /// may stand.
+    /// The first of these: BadName; why there is no file; Shelf or NameTaken, where something has the
+    /// name. After a refusal the temporary file may stand.
     pub fn store<S: Shelf>(&self, alloc: Global, shelf: &mut S) -> Result<(), Fault>
         ensures judged { (e : Fault) → due_file self.now ≡ Err e
             → (result ≡ Err e) × (shelf.new ≡ shelf.old) }
@@ -159,39 +202,45 @@ impl Encoded {
             (S.keeps shelf.new
             (with_file (file_name (string_bytes self.now.name)) file
             (without (temporary_name (string_bytes self.now.name)) files))) }
-        // Shelf comes behind what is judged and encoded, where the file couldn't be written under its
-        // temporary name, or that couldn't become its own.
+        // NameTaken and Shelf come behind what is judged and encoded: something had the name, or the
+        // file couldn't be written under its temporary name, or that couldn't become its own.
         ensures cause { IfErr result (λ e. IsMemory e
             ⊎ (due_file self.now ≡ Err e)
-            ⊎ ((e ≡ ShelfFault)
-            × ((file : List ℕ) × (due_file self.now ≡ Ok file))
-            × IsUnstored S.unwritten S.unrenamed (temporary_name (string_bytes self.now.name))
-            (file_name (string_bytes self.now.name)) shelf.old shelf.new)) }
+            ⊎ (((file : List ℕ) × (due_file self.now ≡ Ok file))
+            × IsUnplaced S.unwritten S.unplaced S.taken (temporary_name (string_bytes self.now.name))
+            (file_name (string_bytes self.now.name)) shelf.old shelf.new e)) }
+        // Whatever it answers, no file that the shelf kept is lost or replaced, but for the temporary
+        // one of this name.
+        ensures stays { (files : Files) → S.keeps shelf.old files
+            → KeepsAllBut S.keeps (temporary_name (string_bytes self.now.name)) files shelf.new }
+        ensures free { (files : Files) (b : List ℕ) → S.keeps shelf.old files
+            → files (file_name (string_bytes self.now.name)) ≡ Some b → OnOk result ⊥ }
         // Of files all but the temporary one of this name are as before.
         ensures left { (files : Files) → S.keeps shelf.old files
             → IfErr result (λ e. (left : Files) × S.keeps shelf.new left
             × IsLeftByAdd (temporary_name (string_bytes self.now.name)) (file_name (string_bytes self.now.name))
             (due_file self.now) e files left) }
         ensures counts { Passes
-            (λ e. IsMemory e ⊎ (due_file self.now ≡ Err e))
+            (λ e. (IsMemory e ⊎ (e ≡ NameTaken)) ⊎ (due_file self.now ≡ Err e))
             result (S.failed shelf.old) (S.failed shelf.new) }
     {
         let bytes = self.due()?;
-        store_named(alloc, shelf, self.name.as_str(), bytes)
+        store_named(alloc, shelf, self.name.as_str(), bytes, Naming::New)
     }
 }
 
 impl<S: Shelf> Archive<S> {
     /// Puts the JP2 file of an entry on the shelf under the name of an image, and lists the entry.
     ///
-    /// Shelf: it can't be stored. After a refusal the list is as before, and the temporary file may
-    /// stand.
+    /// Shelf: it can't be stored. NameTaken: it was to be new, and something has its name. After a
+    /// refusal the list is as before, and the temporary file may stand.
     fn enter(
         &mut self,
         alloc: Global,
         name: &str,
         bytes: &[u8],
         entry: Arc<Entry>,
+        naming: Naming,
     ) -> Result<Arc<Entry>, Fault>
         requires made { IsEntryOf (arc_value entry) name.now bytes.now }
         requires named { is_good_name name.now ≡ true }
@@ -216,18 +265,22 @@ impl<S: Shelf> Archive<S> {
         ensures made { Within (MayBeMade (map arc_value self.old.entries.items))
             (MayBeMade (map arc_value self.new.entries.items)) }
         ensures err { OnErr result (self.new.entries.items ≡ self.old.entries.items) }
-        ensures cause { IfErr result (λ e. IsMemory e
-            ⊎ ((e ≡ ShelfFault) × IsUnstored S.unwritten S.unrenamed (temporary_name name.now) (file_name name.now)
-            self.old.shelf self.new.shelf)) }
+        ensures cause { IfErr result
+            (λ e. WhyUnstored naming S.unwritten S.unrenamed S.unplaced S.taken (temporary_name name.now)
+            (file_name name.now) self.old.shelf self.new.shelf e) }
         ensures left { (files : Files) → S.keeps self.old.shelf files
             → IfErr result (λ e. (left : Files) × S.keeps self.new.shelf left
             × IsLeftByAdd (temporary_name name.now) (file_name name.now) (Ok bytes.now) e files left) }
+        ensures stays { naming ≡ New → (files : Files) → S.keeps self.old.shelf files
+            → KeepsAllBut S.keeps (temporary_name name.now) files self.new.shelf }
+        ensures free { naming ≡ New → (files : Files) (b : List ℕ) → S.keeps self.old.shelf files
+            → files (file_name name.now) ≡ Some b → OnOk result ⊥ }
         ensures skipped { self.new.skipped ≡ self.old.skipped }
-        ensures counts { Passes IsMemory result (S.failed self.old.shelf) (S.failed self.new.shelf) }
+        ensures counts { Passes (Stops naming) result (S.failed self.old.shelf) (S.failed self.new.shelf) }
     {
         let listed = Arc::try_clone(&entry)?;
         self.entries.reserve(1)?;
-        store_named(alloc, &mut self.shelf, name, bytes)?;
+        store_named(alloc, &mut self.shelf, name, bytes, naming)?;
         self.entries.push_reserved(listed);
         Ok(entry)
     }
@@ -275,7 +328,7 @@ impl<S: Shelf> Archive<S> {
         ensures counts { Passes IsMemory result (S.failed self.old.shelf) (S.failed self.new.shelf) }
     {
         let entry = Arc::new(alloc, entry_of(alloc, name, &bytes)?)?;
-        self.enter(alloc, name, &bytes, entry)
+        self.enter(alloc, name, &bytes, entry, Naming::Replacing)
     }
 
     /// Adds an image that is prepared: its file is written to the shelf, and then it is listed.
@@ -283,8 +336,9 @@ impl<S: Shelf> Archive<S> {
     /// the encoding.
     ///
     /// The first of these: BadName; NameTaken; Limit where 4,096 images are listed; what kept the
-    /// image from being prepared; Shelf. After a refusal the list is as before, and the temporary
-    /// file may stand.
+    /// image from being prepared; Shelf or NameTaken, where something on the shelf has the name of its
+    /// file: nothing there is replaced. After a refusal the list is as before, and the temporary file
+    /// may stand.
     pub fn add_prepared(&mut self, alloc: Global, prepared: Prepared) -> Result<Arc<Entry>, Fault>
         ensures judged { (e : Fault) → due_beside (map arc_value self.old.entries.items) prepared ≡ Err e
             → (result ≡ Err e) × (self.new.shelf ≡ self.old.shelf) }
@@ -318,21 +372,28 @@ impl<S: Shelf> Archive<S> {
         // After a refusal the list is as before, and of files all but the temporary one of this
         // name are.
         ensures err { OnErr result (self.new.entries.items ≡ self.old.entries.items) }
-        // Shelf comes behind all that is judged and prepared, where the file couldn't be written
-        // under its temporary name, or that couldn't become its own.
+        // Shelf and the NameTaken of the shelf come behind all that is judged and prepared: something
+        // had the name, or the file couldn't be written under its temporary name, or that couldn't
+        // become its own.
         ensures cause { IfErr result (λ e. IsMemory e
             ⊎ (judged_name (map arc_value self.old.entries.items) (string_bytes prepared.name) ≡ Err e)
             ⊎ (ready_bytes prepared.made ≡ Err e)
-            ⊎ ((e ≡ ShelfFault) × ((file : List ℕ) × (ready_bytes prepared.made ≡ Ok file))
-            × IsUnstored S.unwritten S.unrenamed (temporary_name (string_bytes prepared.name))
-            (file_name (string_bytes prepared.name)) self.old.shelf self.new.shelf)) }
+            ⊎ (((file : List ℕ) × (ready_bytes prepared.made ≡ Ok file))
+            × IsUnplaced S.unwritten S.unplaced S.taken (temporary_name (string_bytes prepared.name))
+            (file_name (string_bytes prepared.name)) self.old.shelf self.new.shelf e)) }
+        // Whatever it answers, no file that the shelf kept is lost or replaced, but for the temporary
+        // one of this name.
+        ensures stays { (files : Files) → S.keeps self.old.shelf files
+            → KeepsAllBut S.keeps (temporary_name (string_bytes prepared.name)) files self.new.shelf }
+        ensures free { (files : Files) (b : List ℕ) → S.keeps self.old.shelf files
+            → files (file_name (string_bytes prepared.name)) ≡ Some b → OnOk result ⊥ }
         ensures left { (files : Files) → S.keeps self.old.shelf files
             → IfErr result (λ e. (left : Files) × S.keeps self.new.shelf left
             × IsLeftByAdd (temporary_name (string_bytes prepared.name)) (file_name (string_bytes prepared.name))
             (ready_bytes prepared.made) e files left) }
         ensures skipped { self.new.skipped ≡ self.old.skipped }
         ensures counts { Passes
-            (λ e. IsMemory e
+            (λ e. (IsMemory e ⊎ (e ≡ NameTaken))
             ⊎ (judged_name (map arc_value self.old.entries.items) (string_bytes prepared.name) ≡ Err e)
             ⊎ (ready_bytes prepared.made ≡ Err e))
             result (S.failed self.old.shelf) (S.failed self.new.shelf) }
@@ -342,6 +403,6 @@ impl<S: Shelf> Archive<S> {
         judge_beside(&self.entries, name)?;
         let ready = made?;
         let Ready { entry, bytes } = ready;
-        self.enter(alloc, name, &bytes, entry)
+        self.enter(alloc, name, &bytes, entry, Naming::New)
     }
 }

@@ -1,6 +1,6 @@
 //! What an archive stands on.
 
-ghost use Rattle.std.specs.Prelude.{◌≡◌, ◌⊎◌, ℕ, List, map, take, drop, true, Some, IfOk, IfErr, OnOk};
+ghost use Rattle.std.specs.Prelude.{◌≡◌, ◌⊎◌, ℕ, List, length, map, take, drop, true, false, Some, IfOk, IfErr, OnOk, IfSome};
 ghost use Rattle.std.specs.String.{string_bytes};
 ghost use Rattle.jk_math.specs.Memory.{IsMemory};
 ghost use Rattle.jk_math.specs.declared.fault.Fault.TheVariants.{Shelf as ShelfFault};
@@ -41,6 +41,13 @@ pub trait Shelf {
     /// state.
     ghost unrenamed: { Self → List ℕ → List ℕ → Self → Type 0 } = { λ _ _ _ _. Unit {0} };
 
+    /// From the first state the first name may fail to become the second, which nothing has, and leave
+    /// the second state.
+    ghost unplaced: { Self → List ℕ → List ℕ → Self → Type 0 } = { λ _ _ _ _. Unit {0} };
+
+    /// In the first state something may have that name, and the second is left.
+    ghost taken: { Self → List ℕ → Self → Type 0 } = { λ _ _ _. Unit {0} };
+
     /// How many failures were counted.
     ghost failed: { Self → ℕ };
 
@@ -70,6 +77,18 @@ pub trait Shelf {
             → IfOk result (λ v. keeps self.new (with_file name.now v.items files)) }
         ensures cause { IfErr result (λ e. e ≡ ShelfFault → unread self.old name.now self.new) }
         ensures counts { Counts result (failed self.old) (failed self.new) };
+
+    /// How many bytes a file has, where that can be told without reading it.
+    fn length(&self, _alloc: Global, _name: &str) -> Option<u64>
+        // A read may give a file of that length.
+        ensures told { IfSome result
+            (λ n. (file : List ℕ) × gave self.now _name.now file self.now × (length file ≡ n)) }
+        // Of a file that it keeps it is the length.
+        ensures same { (files : Files) (b : List ℕ) → keeps self.now files → files _name.now ≡ Some b
+            → IfSome result (λ n. n ≡ length b) }
+    {
+        None
+    }
 
     /// At most so many bytes of a file from a place on: fewer where the file ends before.
     fn read_at(
@@ -109,6 +128,23 @@ pub trait Shelf {
         ensures memory { (files : Files) → keeps self.old files
             → IfErr result (λ e. IsMemory e → keeps self.new files) }
         ensures cause { IfErr result (λ e. e ≡ ShelfFault → unrenamed self.old from.now to.now self.new) }
+        ensures counts { Counts result (failed self.old) (failed self.new) };
+
+    /// Gives a file another name that nothing has, in one step. Whether it has the name: it never
+    /// replaces anything, also not what comes under the name meanwhile. A file that doesn't get the
+    /// name may be gone.
+    fn place(&mut self, alloc: Global, from: &str, to: &str) -> Result<bool, Fault>
+        ensures ok { (files : Files) (b : List ℕ) → keeps self.old files → files from.now ≡ Some b
+            → IfOk result
+            (λ placed. placed ≡ true → keeps self.new (with_file to.now b (without from.now files))) }
+        // Whatever it answers, each other file stays, also one that has the name.
+        ensures stays { (files : Files) → keeps self.old files → keeps self.new (without from.now files) }
+        ensures free { (files : Files) (b : List ℕ) → keeps self.old files → files to.now ≡ Some b
+            → IfOk result (λ placed. placed ≡ false) }
+        ensures taken { IfOk result (λ placed. placed ≡ false → taken self.old to.now self.new) }
+        ensures memory { (files : Files) → keeps self.old files
+            → IfErr result (λ e. IsMemory e → keeps self.new files) }
+        ensures cause { IfErr result (λ e. e ≡ ShelfFault → unplaced self.old from.now to.now self.new) }
         ensures counts { Counts result (failed self.old) (failed self.new) };
 
     /// How many failures were counted.

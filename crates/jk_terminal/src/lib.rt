@@ -8,5 +8,5 @@ mod output;
 mod telling;
 
 pub use opening::Watched;
-pub use output::Late;
+pub use output::{Late, OutputPath};
 pub use telling::{Counted, Teller, Telling};

@@ -113,6 +113,10 @@ impl<S: Shelf, R: Eprint + Clock> Shelf for Watched<S, R> {
 
     ghost unrenamed = { λ w from to v. S.unrenamed w.shelf from to v.shelf };
 
+    ghost unplaced = { λ w from to v. S.unplaced w.shelf from to v.shelf };
+
+    ghost taken = { λ w name v. S.taken w.shelf name v.shelf };
+
     ghost failed = { λ w. S.failed w.shelf };
 
     fn list(&mut self, alloc: Global) -> Result<Vec<String>, Fault> {
@@ -147,6 +151,10 @@ impl<S: Shelf, R: Eprint + Clock> Shelf for Watched<S, R> {
 
     fn rename(&mut self, alloc: Global, from: &str, to: &str) -> Result<(), Fault> {
         self.shelf.rename(alloc, from, to)
+    }
+
+    fn place(&mut self, alloc: Global, from: &str, to: &str) -> Result<bool, Fault> {
+        self.shelf.place(alloc, from, to)
     }
 
     fn failures(&self) -> u64 {

@@ -2,13 +2,39 @@
 
 use crate::telling::Counted;
 use jk_files::{
-    Output, Refusal, abandon_output, create_beside_output, create_output, finish_output,
+    Lockable, Output, Ownable, Refusal, Rules, abandon_output, create_beside_output, create_output,
+    finish_output,
 };
 use jk_math::Refused;
 use std::alloc::Global;
 use std::io::{self, ErrorKind, Write};
 use std::mem;
 use std::rt::Files;
+
+/// Where an output goes.
+#[derive(Drop)]
+pub struct OutputPath {
+    /// The path of a file, or `-` for standard output.
+    pub name: String,
+    /// The path of the input, if the output may not be the same file.
+    pub input: Option<String>,
+    /// Whether what has the path is never replaced.
+    pub is_new: bool,
+}
+
+impl OutputPath {
+    /// What the output may not replace.
+    fn rules(&self) -> Rules<'_> {
+        let input = match &self.input {
+            Some(input) => Some(input.as_str()),
+            None => None,
+        };
+        Rules {
+            input,
+            is_new: self.is_new,
+        }
+    }
+}
 
 /// When bytes go where they can't be taken back: to standard output, and to what is written as it
 /// is, as a pipe, a device, or a file in a folder that takes no other. A file beside the one that
@@ -35,19 +61,27 @@ enum Way<F> {
 }
 
 /// The way of bytes that go out at once.
-fn open<R: Files>(rt: &R, alloc: Global, name: &str) -> Result<Way<R::File>, Refusal> {
+fn open<R: Files>(rt: &R, alloc: Global, path: &OutputPath) -> Result<Way<R::File>, Refusal>
+where
+    R::File: Lockable + Ownable,
+{
+    let name = path.name.as_str();
     if name == "-" {
         return Ok(Way::Printed);
     }
-    Ok(Way::File(create_output(rt, alloc, name)?))
+    Ok(Way::File(create_output(rt, alloc, name, path.rules())?))
 }
 
 /// The way of bytes that are taken back if the whole doesn't come.
-fn open_beside<R: Files>(rt: &R, alloc: Global, name: &str) -> Result<Way<R::File>, Refusal> {
+fn open_beside<R: Files>(rt: &R, alloc: Global, path: &OutputPath) -> Result<Way<R::File>, Refusal>
+where
+    R::File: Lockable + Ownable,
+{
+    let name = path.name.as_str();
     let beside = if name == "-" {
         None
     } else {
-        create_beside_output(rt, alloc, name)?
+        create_beside_output(rt, alloc, name, path.rules())?
     };
     Ok(match beside {
         Some(output) => Way::File(output),
@@ -90,20 +124,23 @@ fn close<R: Files>(rt: &R, way: Way<R::File>, is_whole: bool) -> Result<(), Refu
 pub struct Late<R: Files> {
     rt: R,
     alloc: Global,
-    name: String,
+    path: OutputPath,
     goes_out: GoesOut,
     way: Way<R::File>,
     refusal: Option<Refusal>,
     counted: Counted,
 }
 
-impl<R: Files + Print + Drop> Late<R> {
-    /// The output of a name, whose bytes go out as they come, and who is told how much is written.
-    pub fn new(rt: R, alloc: Global, name: String, counted: Counted) -> Late<R> {
+impl<R: Files + Print + Drop> Late<R>
+where
+    R::File: Lockable + Ownable,
+{
+    /// The output of a path, whose bytes go out as they come, and who is told how much is written.
+    pub fn new(rt: R, alloc: Global, path: OutputPath, counted: Counted) -> Late<R> {
         Late {
             rt,
             alloc,
-            name,
+            path,
             goes_out: GoesOut::AtOnce,
             way: Way::Unasked,
             refusal: None,
@@ -111,10 +148,10 @@ impl<R: Files + Print + Drop> Late<R> {
         }
     }
 
-    /// The output of a name, whose bytes are held where they can't be taken back, until the whole is
+    /// The output of a path, whose bytes are held where they can't be taken back, until the whole is
     /// there. Of bytes that are held nobody is told.
-    pub fn held(rt: R, alloc: Global, name: String, counted: Counted) -> Late<R> {
-        let mut late = Late::new(rt, alloc, name, counted);
+    pub fn held(rt: R, alloc: Global, path: OutputPath, counted: Counted) -> Late<R> {
+        let mut late = Late::new(rt, alloc, path, counted);
         late.goes_out = GoesOut::WhenWhole;
         late
     }
@@ -122,10 +159,10 @@ impl<R: Files + Print + Drop> Late<R> {
     /// Writes all bytes.
     fn put(&mut self, bytes: &[u8]) -> Result<(), Refusal> {
         if matches!(self.way, Way::Unasked) {
-            let (rt, name) = (&self.rt, self.name.as_str());
+            let (rt, path) = (&self.rt, &self.path);
             self.way = match self.goes_out {
-                GoesOut::AtOnce => open(rt, self.alloc, name)?,
-                GoesOut::WhenWhole => open_beside(rt, self.alloc, name)?,
+                GoesOut::AtOnce => open(rt, self.alloc, path)?,
+                GoesOut::WhenWhole => open_beside(rt, self.alloc, path)?,
             };
         }
         send(&self.rt, &mut self.way, bytes)
@@ -172,7 +209,10 @@ fn told(refusal: Refusal) -> io::Error {
     }
 }
 
-impl<R: Files + Print + Drop> Write for Late<R> {
+impl<R: Files + Print + Drop> Write for Late<R>
+where
+    R::File: Lockable + Ownable,
+{
     fn write(&mut self, bytes: &[u8]) -> io::Result<usize> {
         if self.refusal.is_none() {
             self.refusal = self.put(bytes).err();

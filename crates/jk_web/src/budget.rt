@@ -4,8 +4,7 @@ ghost use Rattle.std.specs.Prelude.{◌≡◌, ◌+◌, ◌<◌, Ok, IsErr};
 ghost use Rattle.std.specs.Io.{ReadsAtMost};
 ghost use Rattle.std.specs.Io.KnownBytes.{ReadConsumes};
 
-use std::io;
-use std::io::Read;
+use std::io::{self, ErrorKind, Read};
 
 /// What became of the last read.
 #[derive(Clone, Copy, Debug, PartialEq, Eq)]
@@ -37,6 +36,23 @@ fn last_of(read: &io::Result<usize>) -> Last
     }
 }
 
+/// How often a read is made at most that is interrupted each time.
+const TRIES: u64 = 1 << 16;
+
+/// Reads once. An interrupted read is made again.
+fn read_again<I: Read>(reader: &mut I, piece: &mut [u8]) -> io::Result<usize>
+    ensures bound { ReadsAtMost result piece.new }
+    ensures bytes { ReadConsumes (I.remaining reader.old) (I.remaining reader.new) result piece.new }
+{
+    for _try in 0..TRIES {
+        match reader.read(piece) {
+            Err(said) if said.kind() == ErrorKind::Interrupted => {}
+            read => return read,
+        }
+    }
+    Err(io::Error::from(ErrorKind::Interrupted))
+}
+
 impl<'a, I: Read> Budget<'a, I> {
     /// The reader, with so many reads.
     pub(crate) fn new(reader: &'a mut I, left: u64) -> Budget<'a, I>
@@ -51,7 +67,7 @@ impl<'a, I: Read> Budget<'a, I> {
         }
     }
 
-    /// Reads once.
+    /// Reads once. An interrupted read is made again, and is one.
     pub(crate) fn read(&mut self, piece: &mut [u8]) -> io::Result<usize>
         requires { 0 < self.old.left }
         ensures same_reference { self.new.reader.ghost_name ≡ self.old.reader.ghost_name }
@@ -62,7 +78,7 @@ impl<'a, I: Read> Budget<'a, I> {
             (I.remaining self.new.reader.now) result piece.new }
     {
         self.left -= 1;
-        let read = self.reader.read(piece);
+        let read = read_again(&mut *self.reader, piece);
         self.last = last_of(&read);
         read
     }

@@ -12,10 +12,10 @@ use httparse::spans::{EMPTY_HEADER_SPAN, HeaderSpan, RequestSpans, Span, parse_r
 use httparse::{Error, Status};
 
 /// The bytes of the longest head.
-const HEAD_LIMIT: usize = 8192;
+pub const HEAD_LIMIT: usize = 8192;
 
 /// The most fields of a head.
-const FIELD_LIMIT: usize = 64;
+pub const FIELD_LIMIT: usize = 64;
 
 /// Where the parts of a whole head are.
 #[derive(Clone, Copy)]

@@ -5,6 +5,7 @@
 mod answering;
 mod budget;
 mod cache;
+mod explaining;
 mod fields;
 mod head;
 mod octets;
@@ -23,6 +24,8 @@ mod witness;
 
 pub use answering::{answer, answer_with};
 pub use cache::Cache;
+pub use explaining::why;
+pub use head::{FIELD_LIMIT, HEAD_LIMIT};
 pub use jk_catalogue::{Catalogue, View as Asked};
 pub use octets::Octets;
 pub use query::window_asked;

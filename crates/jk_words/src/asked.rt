@@ -2,6 +2,8 @@
 
 use crate::commands::{Name, command, name_of};
 use crate::defaults::Defaults;
+use crate::mistakes::{bad_number, bad_workers, lossy_option};
+use crate::precincts::precinct_digits;
 use clap::ArgMatches;
 use clap::error::ErrorKind;
 use clap::parser::ValueSource;
@@ -10,7 +12,6 @@ use jk_math::Style;
 use jk_options::{EncodeOptions, order_named};
 use jk_window::View;
 use std::alloc::{AllocError, Global};
-use std::fmt::{self, Display, Formatter, Write};
 
 /// What a file is to keep beside the samples, or what of it is to be taken out: the words for each,
 /// where it is given.
@@ -36,13 +37,24 @@ impl Kept<'_> {
     }
 }
 
+/// How many workers there are to be.
+#[derive(Clone, Copy, Debug, PartialEq, Eq)]
+pub enum WorkerCount {
+    /// So many.
+    Given(u32),
+    /// As many as the machine has processors for.
+    Auto,
+}
+
 /// `jk encode IN OUT`.
 #[derive(Drop)]
 pub struct Encoding<'a> {
     pub input: &'a str,
     pub output: &'a str,
+    /// Whether no file is to be replaced.
+    pub no_clobber: bool,
     /// How many workers there are to be.
-    pub workers: u32,
+    pub workers: WorkerCount,
     pub options: EncodeOptions,
     pub kept: Kept<'a>,
 }
@@ -52,8 +64,10 @@ pub struct Encoding<'a> {
 pub struct Decoding<'a> {
     pub input: &'a str,
     pub output: &'a str,
+    /// Whether no file is to be replaced.
+    pub no_clobber: bool,
     /// How many workers there are to be.
-    pub workers: u32,
+    pub workers: WorkerCount,
     /// How often the image is halved.
     pub reduce: u32,
     /// How many layers to decode, where a number is given.
@@ -62,12 +76,14 @@ pub struct Decoding<'a> {
     pub window: Option<View>,
 }
 
-/// `jk info IN`.
+/// `jk info IN..`.
 #[derive(Drop)]
 pub struct Telling<'a> {
-    pub input: &'a str,
-    /// Whether all lines are to be told.
+    pub inputs: Vec<&'a str>,
+    /// Whether all lines are to be printed.
     pub all: bool,
+    /// Whether an object in JSON is to be printed.
+    pub json: bool,
 }
 
 /// `jk cut IN OUT`.
@@ -75,6 +91,8 @@ pub struct Telling<'a> {
 pub struct Cutting<'a> {
     pub input: &'a str,
     pub output: &'a str,
+    /// Whether no file is to be replaced.
+    pub no_clobber: bool,
     pub window: View,
 }
 
@@ -83,6 +101,8 @@ pub struct Cutting<'a> {
 pub struct Dressing<'a> {
     pub input: &'a str,
     pub output: &'a str,
+    /// Whether no file is to be replaced.
+    pub no_clobber: bool,
     pub kept: Kept<'a>,
 }
 
@@ -90,6 +110,8 @@ pub struct Dressing<'a> {
 #[derive(Drop)]
 pub struct Listing<'a> {
     pub input: &'a str,
+    /// Whether no file is to be replaced.
+    pub no_clobber: bool,
     /// What is to be taken out, each with the file that it goes to.
     pub taken: Kept<'a>,
 }
@@ -112,7 +134,7 @@ pub struct AddingAll<'a> {
     /// The files of the images.
     pub paths: Vec<&'a str>,
     /// How many workers there are to be.
-    pub workers: u32,
+    pub workers: WorkerCount,
     pub options: EncodeOptions,
     pub kept: Kept<'a>,
 }
@@ -125,8 +147,10 @@ pub struct Checking<'a> {
     pub against: Option<&'a str>,
     /// Whether code-blocks are judged too.
     pub decode: bool,
+    /// Whether it fails where something in the folder isn't checked.
+    pub strict: bool,
     /// How many workers there are to be.
-    pub workers: u32,
+    pub workers: WorkerCount,
 }
 
 /// `jk serve DIR`.
@@ -138,7 +162,7 @@ pub struct Server<'a> {
     /// How many connections are taken before the end; without a number there is none.
     pub connections: Option<u32>,
     /// How many connections are to be served at a time.
-    pub workers: u32,
+    pub workers: WorkerCount,
     /// How long a read or a write on a connection may wait, in seconds.
     pub timeout: u32,
     /// Whether each request is told on standard error.
@@ -147,6 +171,8 @@ pub struct Server<'a> {
     pub open_while_serving: bool,
     /// After how many seconds each the folder is listed again, if it is.
     pub watch: Option<u32>,
+    /// The names of the hosts that are answered for, with commas between them; without it all are.
+    pub host_names: Option<&'a str>,
 }
 
 /// What a command line asks for.
@@ -175,25 +201,15 @@ pub struct Line<'a> {
     pub explain: bool,
 }
 
-/// A text about the command line: its help, its version, or what is wrong with it.
-#[derive(Drop)]
-pub struct Text(clap::Error);
-
-impl Display for Text {
-    fn fmt<W: Write>(&self, f: &mut Formatter<W>) -> fmt::Result {
-        self.0.fmt(f)
-    }
-}
-
 /// Why a command line asks for no command.
 #[derive(Drop)]
 pub enum Unasked {
     /// Memory for its words was refused.
     Memory,
-    /// This text is asked for.
-    Shows(Text),
+    /// This text is asked for, as by `--help`.
+    Shows(String),
     /// The line is wrong, as this text says.
-    IsWrong(Text),
+    IsWrong(String),
     /// No command is named.
     Nothing,
 }
@@ -227,9 +243,23 @@ fn input<'a>(line: &ArgMatches<'a>) -> &'a str {
     word(line, "IN", "-")
 }
 
+/// The files to read.
+fn inputs<'a>(alloc: Global, line: &ArgMatches<'a>) -> Result<Vec<&'a str>, AllocError> {
+    let mut inputs = Vec::new(alloc);
+    if let Some(given) = line.get_strs("IN") {
+        inputs.extend_from_slice(given)?;
+    }
+    Ok(inputs)
+}
+
 /// The file to write.
 fn output<'a>(line: &ArgMatches<'a>) -> &'a str {
     word(line, "OUT", "-")
+}
+
+/// Whether no file is to be replaced.
+fn no_clobber(line: &ArgMatches<'_>) -> bool {
+    line.get_flag("no-clobber")
 }
 
 /// The folder of an archive.
@@ -238,8 +268,15 @@ fn folder<'a>(line: &ArgMatches<'a>) -> &'a str {
 }
 
 /// How many workers there are to be.
-fn workers(line: &ArgMatches<'_>) -> u32 {
-    number(line, "workers", 1)
+fn workers(alloc: Global, line: &ArgMatches<'_>) -> Result<WorkerCount, Unasked> {
+    let asked = word(line, "workers", "1");
+    if asked == "auto" {
+        return Ok(WorkerCount::Auto);
+    }
+    match asked.parse() {
+        Ok(count) => Ok(WorkerCount::Given(count)),
+        Err(_) => Err(Unasked::IsWrong(bad_workers(alloc, asked)?)),
+    }
 }
 
 /// How often the image is halved.
@@ -263,8 +300,9 @@ fn order(line: &ArgMatches<'_>) -> Option<Order> {
 /// The options of an encoding.
 fn options(alloc: Global, line: &ArgMatches<'_>) -> Result<EncodeOptions, AllocError> {
     let given = EncodeOptions::new(alloc);
+    let levels = number(line, "levels", given.levels);
     Ok(EncodeOptions {
-        levels: number(line, "levels", given.levels),
+        levels,
         layers: given_number(line, "layers"),
         order: order(line),
         tile_width: line.get_one::<u32>("tile-width"),
@@ -276,7 +314,7 @@ fn options(alloc: Global, line: &ArgMatches<'_>) -> Result<EncodeOptions, AllocE
             causal: line.get_flag("causal"),
             segments: line.get_flag("segments"),
         },
-        precincts: String::from_str(alloc, word(line, "precincts", ""))?,
+        precincts: precinct_digits(alloc, word(line, "precincts", ""), levels)?,
         windows: line.get_flag("windows"),
         x0: number(line, "x0", given.x0),
         y0: number(line, "y0", given.y0),
@@ -322,7 +360,7 @@ fn kept_words<'a>(alloc: Global, line: &ArgMatches<'a>) -> Result<Kept<'a>, Allo
 }
 
 /// What `jk add` is asked: one image is added, or those of several files.
-fn to_add<'a>(alloc: Global, line: &ArgMatches<'a>) -> Result<Command<'a>, AllocError> {
+fn to_add<'a>(alloc: Global, line: &ArgMatches<'a>) -> Result<Command<'a>, Unasked> {
     let Some(given) = line.get_strs("all") else {
         return Ok(Command::Add(Adding {
             folder: folder(line),
@@ -337,60 +375,67 @@ fn to_add<'a>(alloc: Global, line: &ArgMatches<'a>) -> Result<Command<'a>, Alloc
     Ok(Command::AddAll(AddingAll {
         folder: folder(line),
         paths,
-        workers: workers(line),
+        workers: workers(alloc, line)?,
         options: options(alloc, line)?,
         kept: kept_words(alloc, line)?,
     }))
 }
 
 /// What `jk serve` is asked.
-fn served<'a>(line: &ArgMatches<'a>) -> Server<'a> {
-    Server {
+fn served<'a>(alloc: Global, line: &ArgMatches<'a>) -> Result<Server<'a>, Unasked> {
+    Ok(Server {
         folder: folder(line),
         port: line.get_one::<u16>("port").unwrap_or(0),
         connections: line.get_one::<u32>("connections"),
-        workers: workers(line),
+        workers: workers(alloc, line)?,
         timeout: number(line, "timeout", 10),
         log: line.get_flag("log"),
         open_while_serving: line.get_flag("open-while-serving"),
         watch: line.get_one::<u32>("watch"),
-    }
+        host_names: line.get_str("host-names"),
+    })
 }
 
 /// What the words of a command ask for.
-fn asked<'a>(alloc: Global, name: Name, line: &ArgMatches<'a>) -> Result<Command<'a>, AllocError> {
+fn asked<'a>(alloc: Global, name: Name, line: &ArgMatches<'a>) -> Result<Command<'a>, Unasked> {
     Ok(match name {
         Name::Encode => Command::Encode(Encoding {
             input: input(line),
             output: output(line),
-            workers: workers(line),
+            no_clobber: no_clobber(line),
+            workers: workers(alloc, line)?,
             options: options(alloc, line)?,
             kept: kept_words(alloc, line)?,
         }),
         Name::Decode => Command::Decode(Decoding {
             input: input(line),
             output: output(line),
-            workers: workers(line),
+            no_clobber: no_clobber(line),
+            workers: workers(alloc, line)?,
             reduce: reduction(line),
             layers: layers(line),
             window: window(line),
         }),
         Name::Info => Command::Info(Telling {
-            input: input(line),
+            inputs: inputs(alloc, line)?,
             all: line.get_flag("all"),
+            json: line.get_flag("json"),
         }),
         Name::Cut => Command::Cut(Cutting {
             input: input(line),
             output: output(line),
+            no_clobber: no_clobber(line),
             window: view(line),
         }),
         Name::Dress => Command::Dress(Dressing {
             input: input(line),
             output: output(line),
+            no_clobber: no_clobber(line),
             kept: kept_words(alloc, line)?,
         }),
         Name::Extras => Command::Extras(Listing {
             input: input(line),
+            no_clobber: no_clobber(line),
             taken: kept_words(alloc, line)?,
         }),
         Name::Add => to_add(alloc, line)?,
@@ -398,9 +443,10 @@ fn asked<'a>(alloc: Global, name: Name, line: &ArgMatches<'a>) -> Result<Command
             folder: folder(line),
             against: line.get_str("against"),
             decode: line.get_flag("decode"),
-            workers: workers(line),
+            strict: line.get_flag("strict"),
+            workers: workers(alloc, line)?,
         }),
-        Name::Serve => Command::Serve(served(line)),
+        Name::Serve => Command::Serve(served(alloc, line)?),
         Name::Faults => Command::Faults,
     })
 }
@@ -420,15 +466,39 @@ fn understood<'a>(alloc: Global, matches: &ArgMatches<'a>) -> Result<Line<'a>, U
     })
 }
 
+/// What is wrong with the words that clap hasn't understood.
+fn wrong(alloc: Global, words: &[String], error: &clap::Error) -> Result<String, AllocError> {
+    let better = match error.kind() {
+        ErrorKind::UnknownArgument => lossy_option(alloc, words)?,
+        ErrorKind::ValueValidation => bad_number(alloc, words)?,
+        _ => None,
+    };
+    match better {
+        Some(text) => Ok(text),
+        None => format!(in alloc; "{error}"),
+    }
+}
+
+/// A text of clap without blanks at its end.
+fn shown(alloc: Global, error: &clap::Error) -> Result<String, AllocError> {
+    let text = format!(in alloc; "{error}")?;
+    let text = text.as_str().trim_end();
+    format!(in alloc; "{text}\n")
+}
+
 /// Why clap has understood no words.
-fn misunderstood(error: clap::Error) -> Unasked {
+fn misunderstood(
+    alloc: Global,
+    words: &[String],
+    error: &clap::Error,
+) -> Result<Unasked, AllocError> {
     if error.kind() == ErrorKind::OutOfMemory {
-        return Unasked::Memory;
+        return Ok(Unasked::Memory);
     }
     if error.use_stderr() {
-        return Unasked::IsWrong(Text(error));
+        return Ok(Unasked::IsWrong(wrong(alloc, words, error)?));
     }
-    Unasked::Shows(Text(error))
+    Ok(Unasked::Shows(shown(alloc, error)?))
 }
 
 /// What the words of a command line ask for, of which the first is the program's name.
@@ -439,6 +509,6 @@ pub fn read_line<'a>(
 ) -> Result<Line<'a>, Unasked> {
     match command(alloc, defaults)?.try_get_matches_from(words) {
         Ok(matches) => understood(alloc, &matches),
-        Err(error) => Err(misunderstood(error)),
+        Err(error) => Err(misunderstood(alloc, words, &error)?),
     }
 }

@@ -10,19 +10,24 @@ use std::alloc::{AllocError, Global};
 /// (tools/release).
 const VERSION: &str = "0.3.2\nnot a release: `rt version` names the kit that proved it";
 
-/// What is told under the list of commands.
+/// What is printed under the list of commands.
 const STATUSES: &str = "\
-A file is judged from front to back. Its first fault is a line such as `jk: F2 Truncated` on
-standard error, with the status 1; `jk faults` lists all of them, and with `--explain` a second line
-has its cause in words. A wrong command line has the status 2. `jk COMMAND --help` tells the options
-of a command.";
+Examples:
+jk encode scan.ppm scan.jp2          encodes an image, without loss
+jk decode scan.jp2 scan.ppm          decodes it: the same samples
+jk add archive page-1 scan.ppm       adds the image to the folder `archive` as page-1.jp2
+
+An error is a line such as `jk: F2 Truncated` on standard error, and the exit status is 1; a second
+line names the file and the cause, unless --quiet is given. `jk faults` lists all errors. A wrong
+command line has the exit status 2. `jk COMMAND --help` prints the options of a command.";
 
 /// What the words of the line of `jk info` are.
 const INFO_HELP: &str = "\
 The line is WIDTH HEIGHT COMPONENTS DEPTH LEVELS LAYERS ORDER TILES PACKETS. LEVELS is the least
 number of decomposition levels of a component of a tile: the image can't be halved more often.
 LAYERS and ORDER are those of the main header. The boxes, all headers and all packets are read, and
-what is wrong with them is a fault; code-blocks aren't decoded.
+what is wrong with them is an error; code-blocks aren't decoded. Where several files are given, the
+name of each stands at the end of its line; the others are printed although one has an error.
 
 With --all these lines follow, each a LABEL, a colon and values, each behind a space:
 boxes: KIND=LENGTH of each box; what isn't a letter or a digit of a kind stands as in a URL
@@ -35,7 +40,12 @@ EPH: yes or no
 colour-transform: reversible or none
 passed-over: NAME=COUNT of the marker segments in headers that say nothing of the image
 sizes: WIDTHxHEIGHT of the image at each reduction, from 0 on
-The value is `differ` where tiles or components aren't alike, and `none` where there is nothing.";
+The value is `differ` where tiles or components aren't alike, and `none` where there is nothing.
+
+With --json a line is an object: file, width, height, components, depth, levels, layers, order, tiles
+and packets, and the labels above; boxes and passed-over are lists of pairs [KIND, NUMBER], precincts
+and sizes lists of pairs [WIDTH, HEIGHT], code-blocks such a pair, SOP and EPH true or false. A file
+with an error is an object of file and error.";
 
 /// What `jk decode` does with a window.
 const DECODE_HELP: &str = "\
@@ -99,11 +109,14 @@ pub(crate) enum Form<'a> {
     Place,
     /// The same, unless the files of several images are given.
     PlaceOfOne,
+    /// Words that are required, one at least, by their place.
+    Places,
     /// The files of several images, by what stands for them.
     Paths(&'a str),
-    /// An option with a number, and what stands where it isn't given, beside the files of several
-    /// images alone.
-    DefaultOfPaths(&'a str, &'a str),
+    /// A number of workers, and what stands where it isn't given.
+    Count(&'a str),
+    /// The same, beside the files of several images alone.
+    CountOfPaths(&'a str),
     /// An option without a value.
     Flag,
     /// An option with a number, and the letter for it.
@@ -132,25 +145,32 @@ pub(crate) enum Form<'a> {
 #[derive(Clone, Copy)]
 pub(crate) struct Word<'a>(pub(crate) &'a str, pub(crate) Form<'a>, pub(crate) &'a str);
 
-/// That a fault is explained.
+/// That the cause of an error is printed.
 pub(crate) const EXPLAIN: Word<'static> = Word(
     "explain",
     Form::Flag,
-    "Say the cause of a fault in words, behind its line; on a terminal they are there anyway",
+    "Print the file and the cause of an error even with --quiet",
 );
 
-/// That it isn't told how far work is.
-const QUIET: Word<'static> = Word(
+/// That no file is replaced.
+pub(crate) const NO_CLOBBER: Word<'static> = Word(
+    "no-clobber",
+    Form::Flag,
+    "Never replace a file: if the file to write exists, nothing is written (F20)",
+);
+
+/// That progress and causes aren't printed.
+pub(crate) const QUIET: Word<'static> = Word(
     "quiet",
     Form::Flag,
-    "Don't tell on a terminal how far the work is, as is done where it takes longer than a second",
+    "Print no progress, no notes, and an error as one line without its cause",
 );
 
 /// How many workers there are.
 const WORKERS: Word<'static> = Word(
     "workers",
-    Form::Default("N", "1"),
-    "How many threads to work on the image with, 1 to 64; what is written is the same",
+    Form::Count("1"),
+    "How many threads to work on the image with, 1 to 64, or auto: one for each processor; the output is the same",
 );
 
 /// The numbers of a window.
@@ -280,7 +300,7 @@ pub(crate) fn explained<'a>(
 }
 
 /// The words of `jk encode` before its options.
-static ENCODE_WORDS: [Word<'static>; 5] = [
+static ENCODE_WORDS: [Word<'static>; 6] = [
     PIXELS,
     Word(
         "OUT",
@@ -292,6 +312,7 @@ static ENCODE_WORDS: [Word<'static>; 5] = [
         Form::Flag,
         "Write a bare codestream, and no JP2 file",
     ),
+    NO_CLOBBER,
     WORKERS,
     QUIET,
 ];
@@ -369,8 +390,8 @@ fn with_blocks<'a>(
 static CODING_WORDS: [Word<'static>; 8] = [
     Word(
         "precincts",
-        Form::Text("HEX"),
-        "Precinct sizes, a byte for each resolution from the lowest on, as in COD: two digits, the exponent of the height and that of the width",
+        Form::Text("SIZES"),
+        "Precinct size WIDTH,HEIGHT of each resolution, as 128,128; or a byte for each from the lowest on, as in COD: two hexadecimal digits, the exponents of height and width",
     ),
     Word(
         "windows",
@@ -433,7 +454,7 @@ fn with_origin<'a>(
 }
 
 /// The words of `jk decode`.
-static DECODE_WORDS: [Word<'static>; 11] = [
+static DECODE_WORDS: [Word<'static>; 12] = [
     CODED,
     Word(
         "OUT",
@@ -458,6 +479,7 @@ static DECODE_WORDS: [Word<'static>; 11] = [
         Form::Number("K"),
         "How many layers to decode, all where there are fewer; without it all of them",
     ),
+    NO_CLOBBER,
     WORKERS,
     QUIET,
     EXPLAIN,
@@ -475,13 +497,23 @@ fn decode<'a>(alloc: Global) -> Result<Command<'a>, AllocError> {
 }
 
 /// The words of `jk info`.
-static INFO_WORDS: [Word<'static>; 3] = [
-    CODED,
+static INFO_WORDS: [Word<'static>; 5] = [
+    Word(
+        "IN",
+        Form::Places,
+        "The JPEG 2000 files, or - for standard input",
+    ),
     Word(
         "all",
         Form::Flag,
-        "Tell in more lines what decides how small windows get, and what the file carries",
+        "Print in more lines what decides how small windows get, and what the file carries",
     ),
+    Word(
+        "json",
+        Form::Flag,
+        "Print all that --all prints as an object in JSON, one line for each file",
+    ),
+    QUIET,
     EXPLAIN,
 ];
 
@@ -490,14 +522,14 @@ fn info<'a>(alloc: Global) -> Result<Command<'a>, AllocError> {
     let command = explained(
         alloc,
         "info",
-        "Tells in one line what a JPEG 2000 file holds",
+        "Prints the size, depth and coding of JPEG 2000 files, a line each, or in JSON",
         INFO_HELP,
     );
     with_words(alloc, command, &INFO_WORDS)
 }
 
 /// The words of `jk cut`.
-static CUT_WORDS: [Word<'static>; 9] = [
+static CUT_WORDS: [Word<'static>; 11] = [
     CODED,
     Word(
         "OUT",
@@ -518,6 +550,8 @@ static CUT_WORDS: [Word<'static>; 9] = [
         Form::Number("K"),
         "How many layers to keep, all where there are fewer; without it all of them",
     ),
+    NO_CLOBBER,
+    QUIET,
     EXPLAIN,
 ];
 
@@ -552,8 +586,8 @@ static ADD_WORDS: [Word<'static>; 6] = [
     ),
     Word(
         "workers",
-        Form::DefaultOfPaths("N", "1"),
-        "With --all, how many images to encode at a time, 1 to 64; what is added and printed is the same",
+        Form::CountOfPaths("1"),
+        "With --all, how many images to encode at a time, 1 to 64, or auto; what is added and printed is the same",
     ),
     QUIET,
 ];
@@ -571,7 +605,7 @@ fn add<'a>(alloc: Global, defaults: &'a Defaults) -> Result<Command<'a>, AllocEr
 }
 
 /// The words of `jk check`.
-static CHECK_WORDS: [Word<'static>; 6] = [
+static CHECK_WORDS: [Word<'static>; 7] = [
     FOLDER,
     Word(
         "against",
@@ -580,9 +614,14 @@ static CHECK_WORDS: [Word<'static>; 6] = [
     ),
     Word("decode", Form::Flag, "Judge the code-blocks too"),
     Word(
+        "strict",
+        Form::Flag,
+        "Exit with status 1 if something in the folder isn't checked",
+    ),
+    Word(
         "workers",
-        Form::Default("N", "1"),
-        "How many files to judge at a time, 1 to 64",
+        Form::Count("1"),
+        "How many files to judge at a time, 1 to 64, or auto",
     ),
     QUIET,
     EXPLAIN,
@@ -606,7 +645,7 @@ const OPENING: &str = "open-while-serving";
 static WATCHED: [&str; 1] = [OPENING];
 
 /// The words of `jk serve`.
-static SERVE_WORDS: [Word<'static>; 10] = [
+static SERVE_WORDS: [Word<'static>; 11] = [
     FOLDER,
     Word(
         "port",
@@ -620,8 +659,8 @@ static SERVE_WORDS: [Word<'static>; 10] = [
     ),
     Word(
         "workers",
-        Form::Default("N", "1"),
-        "How many connections to serve, and at the start files to judge, at a time, 1 to 64",
+        Form::Count("1"),
+        "How many connections to serve, and at the start files to judge, at a time, 1 to 64, or auto",
     ),
     Word(
         "timeout",
@@ -639,9 +678,14 @@ static SERVE_WORDS: [Word<'static>; 10] = [
         "List the folder again so often, 1 to 3600, and serve what was added to it",
     ),
     Word(
+        "host-names",
+        Form::Text("NAMES"),
+        "Answer requests whose Host is one of these alone, as localhost,images.example.org; others are 403",
+    ),
+    Word(
         "log",
         Form::Flag,
-        "Tell each request and why a connection failed on standard error",
+        "Print each request to standard error, why it wasn't answered as asked, and why a connection failed",
     ),
     QUIET,
     EXPLAIN,
@@ -677,9 +721,11 @@ fn arg<'a>(alloc: Global, word: Word<'a>) -> Result<Arg<'a>, AllocError> {
             .required_unless_present(ALL)?
             .conflicts_with(ALL)?,
         Form::Paths(value) => repeated(alloc, name, value).num_args(1..),
-        Form::DefaultOfPaths(letter, value) => number(alloc, name, letter)
+        Form::Count(value) => option(alloc, name, "N").default_value(value),
+        Form::CountOfPaths(value) => option(alloc, name, "N")
             .default_value(value)
             .conflicts_with(ONE_NAME)?,
+        Form::Places => Arg::new(alloc, name).required(true).num_args(1..),
         Form::Flag => named(alloc, name).action(ArgAction::SetTrue),
         Form::Number(letter) => number(alloc, name, letter),
         Form::Watch(value) => number(alloc, name, value).requires_all(&WATCHED)?,

@@ -28,7 +28,7 @@ const BOXES: usize = 1024;
 const SEGMENTS: usize = 1 << 20;
 
 /// Where the codestream begins: at the front, or in the box `jp2c` (T.800 I.5.4).
-fn codestream_start(bytes: &[u8]) -> Option<usize> {
+pub(crate) fn codestream_start(bytes: &[u8]) -> Option<usize> {
     if pair(bytes, 0) == marker::SOC {
         return Some(0);
     }
@@ -164,7 +164,7 @@ fn beyond_pnm(codestream: &[u8]) -> Option<&'static str> {
 
 /// What a file has that jk leaves out, as far as its headers tell it. It needn't be the first
 /// thing.
-pub fn left_out(bytes: &[u8]) -> Option<&'static str> {
+pub(crate) fn left_out(bytes: &[u8]) -> Option<&'static str> {
     let start = codestream_start(bytes)?;
     let (front, codestream) = bytes.split_at(start.min(bytes.len()));
     if front.windows(4).any(|word| word == b"pclr".as_slice()) {

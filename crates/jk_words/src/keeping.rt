@@ -1,6 +1,6 @@
 //! The words of what a file keeps beside the samples.
 
-use crate::commands::{CODED, EXPLAIN, Form, Word, explained, with_words};
+use crate::commands::{CODED, EXPLAIN, Form, NO_CLOBBER, QUIET, Word, explained, with_words};
 use clap::Command;
 use std::alloc::{AllocError, Global};
 
@@ -21,6 +21,7 @@ capture: ACROSSxDOWN, each N/DeE, which is N / D * 10^E samples by the metre
 display: the same, at which the image is to be displayed
 xml: SIZE of each box of XML
 uuid: HEX=SIZE of each box under a UUID
+capture-per-inch, display-per-inch: ACROSSxDOWN, the resolutions by the inch, as 300x300
 With --profile, --xml or --uuid nothing is listed: the profile that counts, the first XML and what
 stands first under a UUID are written to files, all of them or, where the file lacks one, none.";
 
@@ -45,13 +46,14 @@ pub(crate) static KEPT_WORDS: [Word<'static>; 4] = [
 ];
 
 /// The words of `jk dress` before its options.
-static DRESS_WORDS: [Word<'static>; 2] = [
+static DRESS_WORDS: [Word<'static>; 3] = [
     CODED,
     Word(
         "OUT",
         Form::Place,
         "The JPEG 2000 file to write, or - for standard output",
     ),
+    NO_CLOBBER,
 ];
 
 /// `jk dress IN OUT`.
@@ -64,11 +66,11 @@ pub(crate) fn dress<'a>(alloc: Global) -> Result<Command<'a>, AllocError> {
     );
     let command = with_words(alloc, command, &DRESS_WORDS)?;
     let command = with_words(alloc, command, &KEPT_WORDS)?;
-    with_words(alloc, command, &[EXPLAIN])
+    with_words(alloc, command, &[QUIET, EXPLAIN])
 }
 
 /// The words of `jk extras`.
-static EXTRAS_WORDS: [Word<'static>; 5] = [
+static EXTRAS_WORDS: [Word<'static>; 7] = [
     CODED,
     Word(
         "profile",
@@ -81,6 +83,8 @@ static EXTRAS_WORDS: [Word<'static>; 5] = [
         Form::Files("HEX:OUT"),
         "Write what stands under this UUID to this file; may be given again",
     ),
+    NO_CLOBBER,
+    QUIET,
     EXPLAIN,
 ];
 

@@ -8,18 +8,27 @@ mod commands;
 mod defaults;
 mod faults;
 mod features;
+mod formats;
+mod front;
+mod inputs;
 mod keeping;
 mod limits;
+mod mistakes;
+mod precincts;
 mod profiles;
 mod progress;
+mod reading;
 
 pub use asked::{
     Adding, AddingAll, Checking, Command, Cutting, Decoding, Dressing, Encoding, Kept, Line,
-    Listing, Server, Telling, Text, Unasked, read_line,
+    Listing, Server, Telling, Unasked, WorkerCount, read_line,
 };
 pub use defaults::Defaults;
 pub use faults::{FaultLine, cause_of, fault_lines};
-pub use features::left_out;
+pub use formats::{Written, other_extension};
+pub use front::Front;
+pub use inputs::not_pnm;
 pub use limits::bad_option;
 pub use profiles::{bad_profile, components_told};
 pub use progress::{FilesProgress, Progress, Work};
+pub use reading::{Seen, not_read};

@@ -76,7 +76,7 @@ fn bad_precincts(alloc: Global, options: &EncodeOptions) -> Result<Option<String
     }
     if digits.len() % 2 != 0 || !digits.iter().all(|digit| digit.is_ascii_hexdigit()) {
         let words = format!(in alloc;
-            "--precincts is {text}, and may have pairs of hexadecimal digits"
+            "--precincts is {text}, and may be WIDTH,HEIGHT, powers of two up to 32768, or pairs of hexadecimal digits"
         )?;
         return Ok(Some(words));
     }

@@ -1,11 +1,12 @@
 //! Files that are written in parts beside a path, or not at all.
 
 use crate::asserts::{equal, equal_at};
-use crate::calls::{called, counts, disk_with, has, old};
+use crate::calls::{ANY, called, counts, disk_with, has, old};
 use crate::disk::{Desk, Disk, Kind};
 use crate::scratch::{folder, has_text, is_link, link, remove, within, write};
-use jk_files::{Refusal, abandon_output, create_beside_output, finish_output};
+use jk_files::{Lockable, Ownable, Refusal, abandon_output, create_beside_output, finish_output};
 use std::alloc::Global;
+use std::fs::File;
 use std::io::{ErrorKind, Write};
 use std::process::{self, Abort};
 use std::rt::Files;
@@ -16,8 +17,11 @@ fn write_beside<R: Files>(
     alloc: Global,
     path: &str,
     is_whole: bool,
-) -> Result<bool, Refusal> {
-    let Some(mut output) = create_beside_output(rt, alloc, path)? else {
+) -> Result<bool, Refusal>
+where
+    R::File: Lockable + Ownable,
+{
+    let Some(mut output) = create_beside_output(rt, alloc, path, ANY)? else {
         return Ok(false);
     };
     output.write_all(b"new")?;
@@ -93,7 +97,8 @@ static REASONS: [ErrorKind; 3] = [
 ];
 
 /// The calls that find a folder that takes no new file.
-const CLOSED: &str = "look d/out;open d/out;make d/.jk-tmp-0;";
+const CLOSED: &str = "look d/out;open d/out;look d/.jk-tmp-0;look d/.jk-tmp-1;look d/.jk-tmp-2;\
+    make d/.jk-tmp-0;";
 
 /// A file of a folder that takes no new one, for this reason, is left alone.
 fn in_closed(rt: &impl Abort, alloc: Global, reason: ErrorKind) {
@@ -111,7 +116,7 @@ fn in_a_closed_folder(rt: HostRuntime) {
 
 /// Whether no file can be opened beside one of a disk, for a reason that is told.
 fn is_refused(disk: &Disk, alloc: Global) -> bool {
-    create_beside_output(&Desk(disk), alloc, "d/out").is_err()
+    create_beside_output(&Desk(disk), alloc, "d/out", ANY).is_err()
 }
 
 /// Where a call fails for another reason, that is answered, and what was there stays.
@@ -125,20 +130,21 @@ fn fails_at(rt: &impl Abort, alloc: Global, call: u64) {
 
 #[test]
 fn failing_at_each_call(rt: HostRuntime) {
-    // To look, to open, to make, to allow.
-    for call in 1..5 {
-        fails_at(&rt, rt.alloc(), call);
+    // To look, to open, to make, to look at what was made, to allow. A look for left files that fails,
+    // or a lock, is no failure.
+    for call in &[1, 2, 6, 8, 9] {
+        fails_at(&rt, rt.alloc(), *call);
     }
 }
 
 /// Writes a file beside a path of the system, which takes it. Whether a file was opened.
-fn is_written<R: Files + Abort>(rt: &R, alloc: Global, path: &str) -> bool {
+fn is_written<R: Files<File = File> + Abort>(rt: &R, alloc: Global, path: &str) -> bool {
     write_beside(rt, alloc, path, true).expect(rt, path)
 }
 
 /// Whether files were opened beside a link to a file, a link that leads nowhere and a device; whether
 /// the link stays; and whether the file has the new text.
-fn written<R: Files + Abort>(rt: &R, alloc: Global, folder: &str) -> [bool; 5] {
+fn written<R: Files<File = File> + Abort>(rt: &R, alloc: Global, folder: &str) -> [bool; 5] {
     let file = within(rt, alloc, folder, "out");
     let linked = within(rt, alloc, folder, "link");
     let adrift = within(rt, alloc, folder, "adrift");

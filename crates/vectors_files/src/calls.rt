@@ -3,9 +3,21 @@
 
 use crate::asserts::{equal, equal_at};
 use crate::disk::{Desk, Disk, Kind};
-use jk_files::{Refusal, SharedLock};
+use jk_files::{Refusal, Rules, SharedLock};
 use std::alloc::Global;
 use std::process::Abort;
+
+/// An output that may replace everything.
+pub(crate) const ANY: Rules<'static> = Rules {
+    input: None,
+    is_new: false,
+};
+
+/// An output that may replace nothing.
+pub(crate) const NEW: Rules<'static> = Rules {
+    input: None,
+    is_new: true,
+};
 
 /// A disk with one thing under a path.
 pub(crate) fn disk_with(
@@ -58,6 +70,16 @@ pub(crate) fn write_new(
     jk_files::write_new(&Desk(disk), alloc, folder, name, bytes)
 }
 
+pub(crate) fn rename_new(
+    disk: &Disk,
+    alloc: Global,
+    folder: &str,
+    from: &str,
+    to: &str,
+) -> Result<bool, Refusal> {
+    jk_files::rename_new(&Desk(disk), alloc, folder, from, to)
+}
+
 pub(crate) fn rename(
     disk: &Disk,
     alloc: Global,
@@ -74,7 +96,7 @@ pub(crate) fn replace_file(
     path: &str,
     bytes: &[u8],
 ) -> Result<(), Refusal> {
-    jk_files::replace_file(&Desk(disk), alloc, path, bytes)
+    jk_files::replace_file(&Desk(disk), alloc, path, ANY, bytes)
 }
 
 pub(crate) fn read_file(disk: &Disk, alloc: Global, path: &str) -> Result<Vec<u8>, Refusal> {

@@ -102,6 +102,8 @@ pub(crate) struct Disk {
     pub(crate) fixed: Cell<Option<ErrorKind>>,
     /// Whether no folder can be asked to be stored.
     pub(crate) unstored: Cell<bool>,
+    /// Whether no file can have a second name.
+    pub(crate) linkless: Cell<bool>,
     /// How often was slept.
     pub(crate) sleeps: Cell<u64>,
 }
@@ -120,6 +122,7 @@ impl Disk {
             closed: Cell::new(None),
             fixed: Cell::new(None),
             unstored: Cell::new(false),
+            linkless: Cell::new(false),
             sleeps: Cell::new(0),
         }
     }
@@ -308,6 +311,16 @@ impl<'a> Files for Desk<'a> {
     fn remove_file(&self, path: &str) -> io::Result<()> {
         self.0.call("remove", path)?;
         self.0.take(path)
+    }
+
+    fn hard_link(&self, original: &str, link: &str) -> io::Result<()> {
+        self.0.call("link", original)?;
+        if self.0.linkless.get() {
+            return Err(io::Error::from(ErrorKind::Unsupported));
+        }
+        let bytes = self.0.bytes(original)?;
+        self.0.make(link)?;
+        self.0.append(link, bytes.as_slice())
     }
 
     fn create_dir(&self, _path: &str) -> io::Result<()> {

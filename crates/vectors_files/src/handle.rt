@@ -3,7 +3,7 @@
 ghost use Rattle.std.specs.Prelude.{◌≤◌, length};
 
 use crate::disk::{Disk, Kind};
-use jk_files::Lockable;
+use jk_files::{Lockable, Ownable, Owner};
 use std::alloc::Global;
 use std::fs::{Metadata, OpenFile, Permissions};
 use std::io::{self, ErrorKind, Read, Seek, SeekFrom, Write};
@@ -123,6 +123,12 @@ impl Lockable for Handle<'_> {
     fn try_shared(&self) -> io::Result<bool> {
         self.disk.call("share", self.path.as_str())?;
         Ok(self.disk.taken.get() == 0)
+    }
+}
+
+impl Ownable for Handle<'_> {
+    fn give_to(&self, _owner: Owner) -> io::Result<()> {
+        self.disk.call("give", self.path.as_str())
     }
 }
 

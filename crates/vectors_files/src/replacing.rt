@@ -1,20 +1,22 @@
 //! Files that are replaced as a whole.
 
 use crate::asserts::{equal, equal_at};
-use crate::calls::{called, counts, disk_with, has, old, put, replace_file};
+use crate::calls::{ANY, called, counts, disk_with, has, old, put, replace_file};
 use crate::disk::{Disk, Kind};
 use crate::scratch::{folder, is_link, link, remove, within};
 use jk_files::{list, read_file};
 use std::alloc::Global;
-use std::fs::{self, Permissions};
+use std::fs::{self, File, Permissions};
 use std::io::ErrorKind;
 use std::os::unix::fs::PermissionsExt;
 use std::process::{self, Abort};
 use std::rt::Files;
 
-/// The calls that replace a file where the first name beside it is taken.
-const IN_ORDER: &str = "look d/out;open d/out;make d/.jk-tmp-0;make d/.jk-tmp-1;\
-    allow d/.jk-tmp-1;write d/.jk-tmp-1;rename d/.jk-tmp-1;";
+/// The calls that replace a file.
+const IN_ORDER: &str = "look d/out;open d/out;\
+    look d/.jk-tmp-0;look d/.jk-tmp-1;look d/.jk-tmp-2;\
+    make d/.jk-tmp-0;lock d/.jk-tmp-0;look d/.jk-tmp-0;allow d/.jk-tmp-0;\
+    write d/.jk-tmp-0;sync d/.jk-tmp-0;open d/;rename d/.jk-tmp-0;sync d/;";
 
 /// Replaces a file by a new one.
 fn replace(rt: &impl Abort, disk: &Disk, alloc: Global, path: &str) {
@@ -24,11 +26,9 @@ fn replace(rt: &impl Abort, disk: &Disk, alloc: Global, path: &str) {
 #[test]
 fn in_order(rt: HostRuntime) {
     let disk = old(&rt, rt.alloc());
-    put(&rt, &disk, "d/.jk-tmp-0", Kind::File, b"another's");
     replace(&rt, &disk, rt.alloc(), "d/out");
     called(&rt, &disk, IN_ORDER);
     has(&rt, &disk, "d/out", b"new");
-    has(&rt, &disk, "d/.jk-tmp-0", b"another's");
 }
 
 /// Where a call fails, the old file stays, and nothing beside it.
@@ -44,9 +44,10 @@ fn fails_at(rt: &impl Abort, alloc: Global, call: u64) {
 
 #[test]
 fn failing_at_each_call(rt: HostRuntime) {
-    // To look, to open, to make, to allow, to write twice, to rename.
-    for call in 1..8 {
-        fails_at(&rt, rt.alloc(), call);
+    // To look, to open, to make, to look at what was made, to allow, to write twice, to store the
+    // file, to open the folder, to rename.
+    for call in &[1, 2, 6, 8, 9, 10, 11, 12, 13, 14] {
+        fails_at(&rt, rt.alloc(), *call);
     }
 }
 
@@ -64,13 +65,17 @@ fn where_nothing_is(rt: HostRuntime) {
         &rt,
         rt.alloc(),
         "out",
-        "look out;make ./.jk-tmp-0;write ./.jk-tmp-0;rename ./.jk-tmp-0;",
+        "look out;look ./.jk-tmp-0;look ./.jk-tmp-1;look ./.jk-tmp-2;\
+            make ./.jk-tmp-0;lock ./.jk-tmp-0;look ./.jk-tmp-0;\
+            write ./.jk-tmp-0;sync ./.jk-tmp-0;open ./;rename ./.jk-tmp-0;sync ./;",
     );
     is_new(
         &rt,
         rt.alloc(),
         "/out",
-        "look /out;make /.jk-tmp-0;write /.jk-tmp-0;rename /.jk-tmp-0;",
+        "look /out;look /.jk-tmp-0;look /.jk-tmp-1;look /.jk-tmp-2;\
+            make /.jk-tmp-0;lock /.jk-tmp-0;look /.jk-tmp-0;\
+            write /.jk-tmp-0;sync /.jk-tmp-0;open /;rename /.jk-tmp-0;sync /;",
     );
 }
 
@@ -90,7 +95,7 @@ fn as_it_is(rt: HostRuntime) {
     called(
         &rt,
         &disk,
-        "look d/pipe;ask d/pipe;empty d/pipe;write d/pipe;",
+        "look d/pipe;ask d/pipe;empty d/pipe;write d/pipe;sync d/pipe;",
     );
     has(&rt, &disk, "d/pipe", b"new");
     in_closed(&rt, rt.alloc(), ErrorKind::PermissionDenied);
@@ -106,8 +111,13 @@ fn may_not_be_written(rt: HostRuntime) {
 }
 
 /// Replaces a file of the system.
-fn replace_in_system<R: Files + Abort>(rt: &R, alloc: Global, path: &str, bytes: &[u8]) {
-    jk_files::replace_file(rt, alloc, path, bytes).expect(rt, path);
+fn replace_in_system<R: Files<File = File> + Abort>(
+    rt: &R,
+    alloc: Global,
+    path: &str,
+    bytes: &[u8],
+) {
+    jk_files::replace_file(rt, alloc, path, ANY, bytes).expect(rt, path);
 }
 
 /// Reads a file of the system.
@@ -122,7 +132,12 @@ fn is_in_system<R: Files + Abort>(rt: &R, alloc: Global, path: &str, bytes: &[u8
 
 /// Replaces a file, and then again through a link to it. Whether the first one was read through the
 /// link in between.
-fn replace_twice<R: Files + Abort>(rt: &R, alloc: Global, file: &str, linked: &str) -> bool {
+fn replace_twice<R: Files<File = File> + Abort>(
+    rt: &R,
+    alloc: Global,
+    file: &str,
+    linked: &str,
+) -> bool {
     replace_in_system(rt, alloc, file, b"one");
     fs::set_permissions(rt, file, Permissions::from_mode(0o600)).expect(rt, file);
     link(rt, "out", linked);
@@ -132,7 +147,7 @@ fn replace_twice<R: Files + Abort>(rt: &R, alloc: Global, file: &str, linked: &s
 }
 
 /// Replaces a file by what is read of it. Whether the second one is read then.
-fn replace_by_itself<R: Files + Abort>(rt: &R, alloc: Global, file: &str) -> bool {
+fn replace_by_itself<R: Files<File = File> + Abort>(rt: &R, alloc: Global, file: &str) -> bool {
     let bytes = read_in_system(rt, alloc, file);
     replace_in_system(rt, alloc, file, &bytes);
     is_in_system(rt, alloc, file, b"two")
@@ -151,7 +166,7 @@ fn mode<R: Files + Abort>(rt: &R, file: &str) -> u32 {
 
 /// Replaces a file of a folder. Whether it was read as the first and the second one, whether the link
 /// stays, the file's mode, and what the folder has.
-fn replaced<R: Files + Abort>(
+fn replaced<R: Files<File = File> + Abort>(
     rt: &R,
     alloc: Global,
     folder: &str,

@@ -1,7 +1,7 @@
 //! In which order files are written and renamed, and what is left alone.
 
 use crate::asserts::{equal, equal_at};
-use crate::calls::{called, disk_with, has, rename, write_new};
+use crate::calls::{called, counts, disk_with, has, put, rename, rename_new, write_new};
 use crate::disk::{Disk, Kind};
 use crate::scratch::{folder, has_text, is_link, link, remove, within, write};
 use jk_files::is_file_name;
@@ -36,13 +36,14 @@ fn over_what_is_left(rt: HostRuntime) {
     has(&rt, &disk, "d/a", b"one");
 }
 
-/// No new file is written where a call fails.
+/// No new file is written where a call fails, and nothing of it is left.
 fn writing_fails_at(rt: &impl Abort, alloc: Global, call: u64) {
     let disk = Disk::new(alloc);
     disk.piece.set(2);
     disk.fails_at.set(call);
     let answer = write_new(&disk, alloc, "d", "a", b"one");
     equal_at(rt, "a refusal", call, answer.is_err(), true);
+    counts(rt, &disk, 0);
 }
 
 /// No file is renamed where a call fails.
@@ -62,6 +63,68 @@ fn failing(rt: HostRuntime) {
     // To open the folder, to rename, to have the folder stored.
     for call in 1..4 {
         renaming_fails_at(&rt, rt.alloc(), call);
+    }
+}
+
+/// A file gets a name that nothing has, by these calls.
+fn is_placed(rt: &impl Abort, alloc: Global, linkless: bool, calls: &str) {
+    let disk = disk_with(rt, alloc, "d/a", Kind::File, b"one");
+    disk.linkless.set(linkless);
+    let answer = rename_new(&disk, alloc, "d", "a", "b").expect(rt, "a name");
+    equal_at(rt, "a new name", linkless, answer, true);
+    called(rt, &disk, calls);
+    has(rt, &disk, "d/b", b"one");
+    counts(rt, &disk, 1);
+}
+
+#[test]
+fn to_a_new_name(rt: HostRuntime) {
+    let linked = "open d/;link d/a;remove d/a;sync d/;";
+    is_placed(&rt, rt.alloc(), false, linked);
+    let reserved = "open d/;link d/a;make d/b;rename d/a;sync d/;";
+    is_placed(&rt, rt.alloc(), true, reserved);
+}
+
+/// What has the name stays, and the file that was to have it is removed.
+fn is_not_placed(rt: &impl Abort, alloc: Global, linkless: bool) {
+    let disk = disk_with(rt, alloc, "d/a", Kind::File, b"one");
+    put(rt, &disk, "d/b", Kind::File, b"came");
+    disk.linkless.set(linkless);
+    let answer = rename_new(&disk, alloc, "d", "a", "b").expect(rt, "a name");
+    equal_at(rt, "a new name", linkless, answer, false);
+    has(rt, &disk, "d/b", b"came");
+    counts(rt, &disk, 1);
+}
+
+#[test]
+fn to_a_taken_name(rt: HostRuntime) {
+    is_not_placed(&rt, rt.alloc(), false);
+    is_not_placed(&rt, rt.alloc(), true);
+    // Its own name is taken too, by itself.
+    let disk = disk_with(&rt, rt.alloc(), "d/a", Kind::File, b"one");
+    let answer = rename_new(&disk, rt.alloc(), "d", "a", "a").expect(&rt, "a name");
+    equal(&rt, "a new name", answer, false);
+    has(&rt, &disk, "d/a", b"one");
+}
+
+/// Where a call fails, the file doesn't get the name, and is removed.
+fn placing_fails_at(rt: &impl Abort, alloc: Global, linkless: bool, call: u64) {
+    let disk = disk_with(rt, alloc, "d/a", Kind::File, b"one");
+    disk.linkless.set(linkless);
+    disk.fails_at.set(call);
+    let answer = rename_new(&disk, alloc, "d", "a", "b");
+    equal_at(rt, "a refusal", call, answer.is_err(), true);
+    counts(rt, &disk, 0);
+}
+
+#[test]
+fn failing_to_a_new_name(rt: HostRuntime) {
+    // To open the folder, to link; or where no file is linked, to reserve the name, and to rename.
+    for call in &[1, 2] {
+        placing_fails_at(&rt, rt.alloc(), false, *call);
+    }
+    for call in &[3, 4] {
+        placing_fails_at(&rt, rt.alloc(), true, *call);
     }
 }
 

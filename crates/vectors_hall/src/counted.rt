@@ -80,6 +80,12 @@ impl Shelf for Counted {
         self.failures.counted(answer)
     }
 
+    fn place(&mut self, alloc: Global, from: &str, to: &str) -> Result<bool, Fault> {
+        self.failures.ready()?;
+        let answer = self.inner.place(alloc, from, to);
+        self.failures.counted(answer)
+    }
+
     fn failures(&self) -> u64 {
         self.failures.count()
     }

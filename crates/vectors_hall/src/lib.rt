@@ -10,6 +10,8 @@ mod counted;
 #[cfg(test)]
 mod crowd;
 #[cfg(test)]
+mod hosts;
+#[cfg(test)]
 mod idle;
 #[cfg(test)]
 mod keeping;

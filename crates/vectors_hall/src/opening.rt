@@ -19,6 +19,10 @@ use vectors::bytes_of;
 /// The PGM file of one grey sample, 128.
 static GREY: &[u8] = b"P5\n1 1\n255\n\x80";
 
+/// The JP2 file of one grey sample with 11 levels, one more than jk takes, as a hexadecimal text.
+static DEEP: &str =
+    "0000000C 6A502020 0D0A870A 00000014 66747970 6A703220 00000000 6A703220 0000002D 6A703268 00000016 69686472 00000001 00000001 0001 07 07 00 00 0000000F 636F6C72 01 00 00 00000011 00000086 6A703263 FF4F FF51 0029 0000 00000001 00000001 00000000 00000000 00000001 00000001 00000000 00000000 0001 07 01 01 FF52 000C 00 00 0001 00 0B 04 04 00 01 FF5C 0025 40 40404040 40404040 40404040 40404040 40404040 40404040 40404040 40404040 4040 FF90 000A 0000 0000001A 00 01 FF93 00000000 00000000 00000000 FFD9";
+
 /// What is seen of the opening.
 #[derive(Drop)]
 struct Seen {
@@ -135,6 +139,12 @@ impl Keeper<MemoryShelf> for Alone {
         Ok(())
     }
 
+    fn try_lock(&mut self, _alloc: Global) -> Result<bool, Fault> {
+        Ok(true)
+    }
+
+    fn tell_waiting(&self) {}
+
     fn release(&mut self) {}
 
     fn has_other(&self, _shelf: &MemoryShelf, _name: &str) -> bool {
@@ -192,13 +202,15 @@ fn desk(rt: &impl Abort, alloc: Global, names: &[&str]) -> Desk<MemoryShelf, Alo
 }
 
 /// The images of which files stand in the folder at first, in another order than that of names; one
-/// of them isn't an image's, and one can't be read.
-static FIRST: [&str; 5] = ["b", "h", "a", "bad", "none"];
+/// of them isn't an image's, one has more levels than jk takes, and one can't be read.
+static FIRST: [&str; 6] = ["b", "h", "a", "bad", "deep", "none"];
 
 /// The files that are opened.
 fn files(rt: &impl Abort, alloc: Global) -> MemoryShelf {
     let mut files = page_shelf(rt, alloc, &["a", "b", "h", "new", "z"]);
     write(rt, &mut files, alloc, "bad.jp2", GREY);
+    let deep = bytes_of(alloc, &[DEEP]).expect(rt, "a file");
+    write(rt, &mut files, alloc, "deep.jp2", &deep);
     write(rt, &mut files, alloc, "late.jp2", GREY);
     files
 }
@@ -296,8 +308,8 @@ static ASKED: [(&[u8], &[u8]); 2] = [
 ];
 
 /// What is asked for and waits is 404 and opened next. A file that isn't an image's is told, and so
-/// is one that can't be read, which is the status; the others are served. An image whose file waits
-/// isn't added.
+/// are one that jk doesn't take and one that can't be read, which is the status; the others are
+/// served. An image whose file waits isn't added.
 #[test]
 fn what_is_asked_for_is_next(rt: HostRuntime) {
     let alloc = rt.alloc();
@@ -312,7 +324,12 @@ fn what_is_asked_for_is_next(rt: HostRuntime) {
     are_served(&rt, &ends, &clients);
     let refused: &[u8] = b"refused h F18 NameTaken\nrefused a F18 NameTaken\n";
     equal(&rt, output.as_slice(), refused);
-    tells(&rt, alloc, &seen, b"\nbad F13 BadBox\nnone F20 Shelf\n");
+    tells(
+        &rt,
+        alloc,
+        &seen,
+        b"\nbad F13 BadBox\ndeep F7 Limit\nnone F20 Shelf\n",
+    );
 }
 
 /// The same of a folder that is watched: a connection that asks for nothing that waits, and one that
@@ -330,13 +347,13 @@ static WATCHED: [(&[u8], &[u8]); 2] = [
 
 /// What stands in the folder each time.
 const LISTS: &[&[&str]] = &[
-    &["a", "b", "h", "bad", "none", "pipe"],
-    &["pipe", "new", "a", "b", "h", "bad", "none"],
-    &["late", "a", "new", "b", "h", "bad", "none", "pipe"],
+    &["a", "b", "h", "bad", "deep", "none", "pipe"],
+    &["pipe", "new", "a", "b", "h", "bad", "deep", "none"],
+    &["late", "a", "new", "b", "h", "bad", "deep", "none", "pipe"],
 ];
 
-/// What comes to a folder is listed; a file that isn't an image's is told once, and listed when it
-/// has changed.
+/// What comes to a folder is listed, also where there is a file that jk doesn't take; one that isn't
+/// an image's is told once, and listed when it has changed.
 #[test]
 fn what_comes_is_listed(rt: HostRuntime) {
     let alloc = rt.alloc();
@@ -354,7 +371,7 @@ fn what_comes_is_listed(rt: HostRuntime) {
         &rt,
         alloc,
         &seen,
-        b"\nbad F13 BadBox\nlate F13 BadBox\nnone F20 Shelf\n",
+        b"\nbad F13 BadBox\ndeep F7 Limit\nlate F13 BadBox\nnone F20 Shelf\n",
     );
 }
 
@@ -442,4 +459,46 @@ fn each_end_comes(rt: HostRuntime) {
             }
         }
     }
+}
+
+/// A connection that asks for 17 images that wait, each once, and one that asks for the list when all
+/// files are opened, with the replies.
+static SEVENTEEN: [(&[u8], &[u8]); 2] = [
+    (
+        b"GET /images/n04 HTTP/1.1\r\n\r\nGET /images/n05 HTTP/1.1\r\n\r\nGET /images/n06 HTTP/1.1\r\n\r\nGET /images/n07 HTTP/1.1\r\n\r\nGET /images/n08 HTTP/1.1\r\n\r\nGET /images/n09 HTTP/1.1\r\n\r\nGET /images/n10 HTTP/1.1\r\n\r\nGET /images/n11 HTTP/1.1\r\n\r\nGET /images/n12 HTTP/1.1\r\n\r\nGET /images/n13 HTTP/1.1\r\n\r\nGET /images/n14 HTTP/1.1\r\n\r\nGET /images/n15 HTTP/1.1\r\n\r\nGET /images/n16 HTTP/1.1\r\n\r\nGET /images/n17 HTTP/1.1\r\n\r\nGET /images/n18 HTTP/1.1\r\n\r\nGET /images/n19 HTTP/1.1\r\n\r\nGET /images/n20 HTTP/1.1\r\n\r\n",
+        b"HTTP/1.1 404 Not Found\r\nContent-Type: text/plain\r\nContent-Length: 14\r\n\r\n404 Not Found\nHTTP/1.1 404 Not Found\r\nContent-Type: text/plain\r\nContent-Length: 14\r\n\r\n404 Not Found\nHTTP/1.1 404 Not Found\r\nContent-Type: text/plain\r\nContent-Length: 14\r\n\r\n404 Not Found\nHTTP/1.1 404 Not Found\r\nContent-Type: text/plain\r\nContent-Length: 14\r\n\r\n404 Not Found\nHTTP/1.1 404 Not Found\r\nContent-Type: text/plain\r\nContent-Length: 14\r\n\r\n404 Not Found\nHTTP/1.1 404 Not Found\r\nContent-Type: text/plain\r\nContent-Length: 14\r\n\r\n404 Not Found\nHTTP/1.1 404 Not Found\r\nContent-Type: text/plain\r\nContent-Length: 14\r\n\r\n404 Not Found\nHTTP/1.1 404 Not Found\r\nContent-Type: text/plain\r\nContent-Length: 14\r\n\r\n404 Not Found\nHTTP/1.1 404 Not Found\r\nContent-Type: text/plain\r\nContent-Length: 14\r\n\r\n404 Not Found\nHTTP/1.1 404 Not Found\r\nContent-Type: text/plain\r\nContent-Length: 14\r\n\r\n404 Not Found\nHTTP/1.1 404 Not Found\r\nContent-Type: text/plain\r\nContent-Length: 14\r\n\r\n404 Not Found\nHTTP/1.1 404 Not Found\r\nContent-Type: text/plain\r\nContent-Length: 14\r\n\r\n404 Not Found\nHTTP/1.1 404 Not Found\r\nContent-Type: text/plain\r\nContent-Length: 14\r\n\r\n404 Not Found\nHTTP/1.1 404 Not Found\r\nContent-Type: text/plain\r\nContent-Length: 14\r\n\r\n404 Not Found\nHTTP/1.1 404 Not Found\r\nContent-Type: text/plain\r\nContent-Length: 14\r\n\r\n404 Not Found\nHTTP/1.1 404 Not Found\r\nContent-Type: text/plain\r\nContent-Length: 14\r\n\r\n404 Not Found\nHTTP/1.1 404 Not Found\r\nContent-Type: text/plain\r\nContent-Length: 14\r\n\r\n404 Not Found\n",
+    ),
+    (
+        b"GET /images HTTP/1.1\r\n\r\n",
+        b"HTTP/1.1 200 OK\r\nContent-Type: text/plain\r\nContent-Length: 12\r\n\r\na 1 1 1 8 0\n",
+    ),
+];
+
+/// The names of the images whose files are to be opened, of which none but the first can be read.
+static TWENTY: [&str; 21] = [
+    "a", "n01", "n02", "n03", "n04", "n05", "n06", "n07", "n08", "n09", "n10", "n11", "n12", "n13",
+    "n14", "n15", "n16", "n17", "n18", "n19", "n20",
+];
+
+/// What is told of these: the last 16 that were asked for are the first, in the order in which they
+/// were, and then the others in the order of their names.
+static IN_ORDER: &[u8] =
+    b"n05 F20 Shelf\nn06 F20 Shelf\nn07 F20 Shelf\nn08 F20 Shelf\nn09 F20 Shelf\nn10 F20 Shelf\nn11 F20 Shelf\nn12 F20 Shelf\nn13 F20 Shelf\nn14 F20 Shelf\nn15 F20 Shelf\nn16 F20 Shelf\nn17 F20 Shelf\nn18 F20 Shelf\nn19 F20 Shelf\nn20 F20 Shelf\nn01 F20 Shelf\nn02 F20 Shelf\nn03 F20 Shelf\nn04 F20 Shelf\n";
+
+/// Of the names that are asked for the last sixteen are opened first.
+#[test]
+fn the_last_sixteen_are_next(rt: HostRuntime) {
+    let alloc = rt.alloc();
+    let seen = Seen::new(alloc, 0);
+    let clients = Clients {
+        streams: Streams::new(alloc, &SEVENTEEN, 1),
+        seen: &seen,
+        lists: 0,
+    };
+    let mut files = opening(&rt, alloc, &seen, None, LISTS);
+    files.names = names_of(alloc, &TWENTY).expect(&rt, "names");
+    let (_, ends) = ends(&rt, alloc, files, &clients, b"");
+    are_served(&rt, &ends, &clients);
+    let told = seen.told.lock(&rt);
+    equal(&rt, told.as_slice(), IN_ORDER);
 }

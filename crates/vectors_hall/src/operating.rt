@@ -32,6 +32,13 @@ impl Keeper<MemoryShelf> for Alone {
         Ok(())
     }
 
+    fn try_lock(&mut self, alloc: Global) -> Result<bool, Fault> {
+        self.lock(alloc)?;
+        Ok(true)
+    }
+
+    fn tell_waiting(&self) {}
+
     fn release(&mut self) {
         self.held = self.held.saturating_sub(1);
     }

@@ -42,6 +42,15 @@ refused one F18 NameTaken
 added -
 ";
 
+/// What is printed to standard error of those that aren't added: their paths and the causes.
+static CAUSES: &str = "\
+jk: bad.pgm has no whole header: after P5 or P6 stand WIDTH, HEIGHT and MAXVAL, each from 1 to 268435456
+jk: Three.pgm: the name Three isn't 1 to 64 of the characters a to z, 0 to 9, - and _
+jk: c.pgm: d has a file c.jp2
+jk: no.pgm can't be read: entity not found
+jk: y/one.pgm: d has a file one.jp2
+";
+
 /// Each file is told of in its turn, whatever the number of workers; of one name the first is added.
 /// The folder is locked for each, and let go.
 #[test]
@@ -55,7 +64,7 @@ fn files_are_added_in_order(rt: HostRuntime) {
         );
         let line = line.as_str();
         let due = ANSWERS.as_bytes();
-        check_run(&rt, alloc, &mut world, line, Status::Refused, due, "");
+        check_run(&rt, alloc, &mut world, line, Status::Refused, due, CAUSES);
         check_file(&rt, alloc, &mut world, "one.jp2", &pixel(), 4);
         check_file(&rt, alloc, &mut world, "-.jp2", &pixel(), 4);
         check_file(&rt, alloc, &mut world, "c.jp2", &["FF"], 4);

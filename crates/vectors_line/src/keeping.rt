@@ -142,7 +142,9 @@ colour: method=3;colour: grey;colour: profile=3;colour: broken;colour: broken
 0000004A|0000002C 72657320 00000012 72657363 3A98 007F 012C 00FE 02 04 00000012 72657364 0001 FFFF FFFF 0001 80 7F|\
 0000000C 786D6C20 3C612F3E 00000008 786D6C20 0000001A 75756964 BE7ACFCB97A942E89C71999491E3AFAC 4869|\
 capture: 300/254e4x15000/127e2;display: 65535/1e127x1/65535e-128;xml: 4;xml: 0;\
-uuid: be7acfcb97a942e89c71999491e3afac=2";
+uuid: be7acfcb97a942e89c71999491e3afac=2;capture-per-inch: 300x300
+0000004A|0000002C 72657320 00000012 72657363 0B13 0001 0B13 0001 00 00 00000012 72657364 0001 0003 012C 007F 03 02||\
+capture: 2835/1e0x2835/1e0;display: 300/127e2x1/3e3;capture-per-inch: 72.01x72.01;display-per-inch: 6x8.47";
 
 /// Lines that are parted by semicolons, as they are written.
 fn spelled(rt: &impl Abort, alloc: Global, lines: &str) -> String {
@@ -266,7 +268,8 @@ encode - - --uuid 000102030405060708090A0B0C0D0E0F|F15 BadParameters|--uuid is 0
 and may be 32 hexadecimal digits, a colon and the name of a file
 encode - - --profile x.xml|F15 BadParameters|the file may not have this --profile: it is no ICC profile
 encode - - --profile p.icc --levels 6|F15 BadParameters|--levels is 6, and may be 0 to 5
-dress - - --xml x.xml|F13 BadBox|the structure of the JP2 boxes is broken
+dress - - --xml x.xml|F13 BadBox|standard input is a PGM or PPM image, and no JPEG 2000 file; \
+`jk encode` makes one of it
 extras - --uuid 00:x|F15 BadParameters|--uuid is 00:x, and may be 32 hexadecimal digits, a colon and the name of a file";
 
 #[test]

@@ -4,9 +4,13 @@
 #[cfg(test)]
 mod adding;
 #[cfg(test)]
+mod causes;
+#[cfg(test)]
 mod inputs;
 #[cfg(test)]
 mod keeping;
+#[cfg(test)]
+mod kept;
 #[cfg(test)]
 mod lines;
 #[cfg(test)]

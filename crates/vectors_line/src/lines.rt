@@ -279,29 +279,36 @@ serve no --port 0 --workers 0||F15 BadParameters
 serve no --port 0 --workers 65||F15 BadParameters
 serve no --port 0 --timeout 0||F15 BadParameters
 serve no --port 0 --open-while-serving --watch 0||F15 BadParameters
+serve no --port 0 --host-names a,,b||F15 BadParameters
 serve no --port 0 --workers 64||F20 Shelf
 check no --workers 65||F15 BadParameters
 check no||F20 Shelf";
 
 /// The same of lines that ask for the cause, which stands behind the fault.
 static CAUSES: &str = "\
-decode - - --explain --workers 65||F15 BadParameters|--workers is 65, and may be 1 to 64
+decode - - --explain --workers 65||F15 BadParameters|--workers is 65, and may be 1 to 64, or auto
 encode - - --explain --levels 6||F15 BadParameters|--levels is 6, and may be 0 to 5
 encode - - --explain --tile-width 3||F15 BadParameters|--tile-width is given without --tile-height
 encode - - --explain --block-x 7||F15 BadParameters|\
 --block-x and --block-y are 7 and 6, and may be 12 at most in all
 encode - - --explain --precincts 1x||F15 BadParameters|\
---precincts is 1x, and may have pairs of hexadecimal digits
-add d A - --explain||F19 BadName|A isn't 1 to 64 of the characters a to z, 0 to 9, - and _
+--precincts is 1x, and may be WIDTH,HEIGHT, powers of two up to 32768, or pairs of hexadecimal digits
+add d A - --explain||F19 BadName|the name A isn't 1 to 64 of the characters a to z, 0 to 9, - and _
 add d c - --explain||F18 NameTaken|d has a file c.jp2
 serve no --port 0 --explain --timeout 3601||F15 BadParameters|--timeout is 3601, and may be 1 to 3600
 serve no --port 0 --explain --open-while-serving --watch 3601||F15 BadParameters|--watch is 3601, and may be 1 to 3600
+serve no --port 0 --host-names a,||F15 BadParameters|--host-names is a,, and may be names with commas between them
 info no --explain||F20 Shelf|no can't be read: entity not found
-decode - - --explain --reduce 2|column|F16 BadWindow|\
-a reduction past the least number of levels, no layer, or a window or reduced image without a sample
-decode - - --explain --x 0 --y 9 --w 1 --h 1|column|F16 BadWindow|\
-a reduction past the least number of levels, no layer, or a window or reduced image without a sample
-decode - - --explain|nine|F6 Unsupported|the file has the irreversible transform 9/7";
+decode - - --reduce 2|column|F16 BadWindow|--reduce is 2, and standard input allows 0 to 1
+decode - - --layers 0|column|F16 BadWindow|--layers is 0, and may be 1 or more: standard input has 1
+decode - - --x 0 --y 9 --w 1 --h 1|column|F16 BadWindow|\
+the window begins at column 0 and row 9, outside standard input, which has 1 columns and 9 rows at --reduce 0
+decode - - --x 0 --y 5 --w 1 --h 1 --reduce 1|column|F16 BadWindow|\
+the window begins at column 0 and row 5, outside standard input, which has 1 columns and 5 rows at --reduce 1
+cut - - --x 0 --y 0 --w 1 --h 0|column|F16 BadWindow|\
+the window has 1 columns and 0 rows (--w and --h), and each must be 1 at least
+decode - - --quiet --explain|nine|F6 Unsupported|\
+standard input has the irreversible transform 9/7, which jk doesn't support";
 
 /// The bytes of an input, by its name or as they are.
 fn input_of<'a>(name: &'a str) -> &'a str {
@@ -341,7 +348,7 @@ fn causes_are_told(rt: HostRuntime) {
 
 /// What `jk serve` says of a folder with an image and a file that isn't listed.
 static SERVED: &str =
-    "jk: c.jp2 isn't listed: F13 BadBox\njk: 1 images on http://127.0.0.1:8080/images\nNone 1 10 false";
+    "jk: c.jp2 isn't listed: F13 BadBox\nthe structure of the JP2 boxes is broken\njk: 1 images on http://127.0.0.1:8080/images\nNone 1 10 false";
 
 /// What it says where the files are opened while it serves: none of them was read.
 static OPENED: &str =
@@ -388,6 +395,30 @@ fn archives_are_served_at_once(rt: HostRuntime) {
     }
 }
 
+/// The names of the hosts that are answered for reach the server, and none if none are given.
+#[test]
+fn hosts_are_named(rt: HostRuntime) {
+    let alloc = rt.alloc();
+    for (line, due) in [
+        ("serve d --port 8080", ""),
+        ("serve d --port 8080 --host-names a.example", "a.example/"),
+        (
+            "serve d --port 8080 --host-names a.example,[::1]:80",
+            "a.example/[::1]:80/",
+        ),
+    ] {
+        let mut world = world_of(&rt, alloc, bytes(&rt, alloc, &[]), &[("c.jp2", &[COLUMN])]);
+        let status = run_line(&rt, alloc, &mut world, line);
+        equal_at(line, status, Status::Done).expect(&rt, "a served folder");
+        let mut found = String::new(alloc);
+        for name in &world.hosts {
+            found.push_str(name.as_str()).expect(&rt, "memory");
+            found.push_str("/").expect(&rt, "memory");
+        }
+        equal_at(line, found.as_str(), due).expect(&rt, "the names");
+    }
+}
+
 /// Options for the style of code-blocks, and the style's byte in COD (T.800 table A.19).
 static ADDED_STYLES: [(&str, &str); 4] = [
     ("--reset", "02"),
@@ -424,7 +455,7 @@ fn styles_are_added(rt: HostRuntime) {
 /// writes them, `^` for what is said of `c.jp2`, and `&` for what a line of a list has.
 static CHECKS: &str = "\
 check d||$  a.jp2/|^|1
-check d --workers 3 --decode --quiet||$  a.jp2/|^|1
+check d --workers 3 --decode --quiet||$  a.jp2/|jk: c.jp2 isn't an image: F13 BadBox/|1
 check d --against -|$  a.jp2/% *c.jp2||^|1
 check d --against -|%  c.jp2/%  a.jp2/|changed a.jp2/|^|1
 check d --against -|$  b.jp2/%  c.jp2|new a.jp2/missing b.jp2/|^|1
@@ -433,7 +464,7 @@ check d --against -|$  a.jp2/$||jk: standard input: line 2 isn't &/|2
 check d --against -|$  a.jp2//||jk: standard input: line 2 isn't &/|2
 check d --against -|$ a.jp2||jk: standard input: line 1 isn't &/|2
 check d --against -|0$  a.jp2||jk: standard input: line 1 isn't &/|2
-check d --against -|$  A.jp2||jk: standard input: line 1 isn't &/|2
+check d --against -|$  A.jp2||jk: standard input: line 1: A.jp2 isn't the name of an image's file, which is 1 to 64 of a to z, 0 to 9, - and _, and .jp2/|2
 check d --against -|$  a.jp2/%  a.jp2||jk: standard input: line 2 has the name of a line before it/|2
 check d --against no|||jk: no can't be read: entity not found/|2";
 
@@ -446,7 +477,9 @@ fn meant(letter: char) -> Option<&'static str> {
     match letter {
         '$' => Some(PAGE_DIGEST),
         '%' => Some(COLUMN_DIGEST),
-        '^' => Some("jk: c.jp2 isn't an image: F13 BadBox\n"),
+        '^' => Some(
+            "jk: c.jp2 isn't an image: F13 BadBox\nthe structure of the JP2 boxes is broken\n",
+        ),
         '&' => Some("64 hexadecimal digits, two spaces and the name of an image's file"),
         '/' => Some("\n"),
         _ => None,
@@ -521,7 +554,6 @@ serve d --port 0 --watch 5
 faults x
 info
 info --all
-info - --all x
 info - --all --all
 info - --all=1
 --explain";

@@ -1,7 +1,10 @@
 //! A world in memory.
 
 use jk_jobs::Gate;
-use jk_line::{Folders, Meanwhile, Serving, Streams, Work, Working, listening, opening};
+use jk_line::{
+    Destination, Folders, Front, Meanwhile, Serving, Streams, Unjudged, Work, Working, listening,
+    opening,
+};
 use jk_math::Fault;
 use jk_store::{Archive, MemoryShelf};
 use jk_stored::MemoryStored;
@@ -34,10 +37,11 @@ pub(crate) struct Memory<'a, R> {
     pub(crate) alloc: Global,
     pub(crate) files: BTreeMap<String, Vec<u8>>,
     pub(crate) folders: BTreeMap<String, MemoryShelf>,
+    /// What else each folder has, and whether it is a folder.
+    pub(crate) others: Vec<(&'static str, bool)>,
     pub(crate) input: Vec<u8>,
     pub(crate) output: Vec<u8>,
     pub(crate) error: String,
-    pub(crate) is_terminal: bool,
     pub(crate) is_full: bool,
     pub(crate) is_quiet: bool,
     pub(crate) counter: Counter,
@@ -58,6 +62,8 @@ pub(crate) struct Memory<'a, R> {
     pub(crate) opened: usize,
     pub(crate) read_whole: usize,
     pub(crate) reading: Reading,
+    /// The hosts that are answered for, if not all are.
+    pub(crate) hosts: Vec<String>,
     said: Option<io::Error>,
 }
 
@@ -69,10 +75,10 @@ impl<'a, R> Memory<'a, R> {
             alloc,
             files: BTreeMap::new(alloc),
             folders: BTreeMap::new(alloc),
+            others: Vec::new(alloc),
             input,
             output: Vec::new(alloc),
             error: String::new(alloc),
-            is_terminal: false,
             is_full: false,
             is_quiet: false,
             counter: Counter {
@@ -92,6 +98,7 @@ impl<'a, R> Memory<'a, R> {
                 most: usize::MAX,
                 end: None,
             },
+            hosts: Vec::new(alloc),
             said: None,
         }
     }
@@ -146,6 +153,7 @@ const FAILED: ErrorKind = ErrorKind::TimedOut;
 #[derive(Drop)]
 pub(crate) struct Opened {
     pieces: Pieces,
+    front: Front,
     was_interrupted: bool,
     has_ended: bool,
     has_failed: bool,
@@ -160,6 +168,8 @@ impl Read for Opened {
         match self.pieces.read(room) {
             Ok(count) => {
                 self.has_ended |= count == 0;
+                let given = count.min(room.len());
+                self.front.add(&room[..given]);
                 Ok(count)
             }
             Err(_) => {
@@ -170,10 +180,13 @@ impl Read for Opened {
     }
 }
 
-/// What is written in parts under a name, and whether it can be taken back.
+/// What is written in parts under a name, of which input and whether it must be new, and whether it
+/// can be taken back.
 #[derive(Drop)]
 pub(crate) struct Written {
     name: String,
+    input: Option<String>,
+    is_new: bool,
     bytes: Vec<u8>,
     goes_back: bool,
 }
@@ -216,20 +229,22 @@ impl<'a, R: Threads + Sync> Streams for Memory<'a, R> {
         }
         Ok(Opened {
             pieces: Pieces::new(bytes, most, end.is_some()),
+            front: Front::new(alloc),
             was_interrupted: false,
             has_ended: false,
             has_failed: false,
         })
     }
 
-    fn close(&mut self, input: Opened) -> Result<(), Fault> {
+    fn close(&mut self, input: Opened) -> Result<Front, Fault> {
         if input.has_failed {
             return Err(self.refused(FAILED));
         }
         if input.has_ended {
             self.read_whole = self.read_whole.saturating_add(1);
         }
-        Ok(())
+        let Opened { front, .. } = input;
+        Ok(front)
     }
 
     fn stored(&mut self, alloc: Global, name: &str) -> Option<(MemoryStored, usize)> {
@@ -240,29 +255,42 @@ impl<'a, R: Threads + Sync> Streams for Memory<'a, R> {
         Some((MemoryStored::new(copy), size))
     }
 
-    fn write(&mut self, alloc: Global, name: &str, bytes: &[u8]) -> Result<(), Fault> {
+    fn write(&mut self, alloc: Global, to: Destination<'_>, bytes: &[u8]) -> Result<(), Fault> {
+        let name = to.name;
         if name == "-" {
             return self.put(bytes);
         }
         if name.contains('/') {
             return Err(self.refused(ErrorKind::NotFound));
         }
+        if to.input == Some(name) && self.files.get(name).is_some() {
+            return Err(self.refused(ErrorKind::InvalidInput));
+        }
+        if to.is_new && self.files.get(name).is_some() {
+            return Err(self.refused(ErrorKind::AlreadyExists));
+        }
         let copy = Vec::from_slice(alloc, bytes)?;
         self.files.insert(String::from_str(alloc, name)?, copy)?;
         Ok(())
     }
 
-    fn create(&mut self, alloc: Global, name: &str) -> Result<Written, Fault> {
+    fn create(&mut self, alloc: Global, to: Destination<'_>) -> Result<Written, Fault> {
+        let input = match to.input {
+            Some(input) => Some(String::from_str(alloc, input)?),
+            None => None,
+        };
         Ok(Written {
-            name: String::from_str(alloc, name)?,
+            name: String::from_str(alloc, to.name)?,
+            input,
+            is_new: to.is_new,
             bytes: Vec::new(alloc),
-            goes_back: name != "-",
+            goes_back: to.name != "-",
         })
     }
 
-    fn create_held(&mut self, alloc: Global, name: &str) -> Result<Written, Fault> {
+    fn create_held(&mut self, alloc: Global, to: Destination<'_>) -> Result<Written, Fault> {
         self.held = self.held.saturating_add(1);
-        let mut output = self.create(alloc, name)?;
+        let mut output = self.create(alloc, to)?;
         output.goes_back = true;
         Ok(output)
     }
@@ -271,7 +299,20 @@ impl<'a, R: Threads + Sync> Streams for Memory<'a, R> {
         if !is_whole && output.goes_back {
             return Ok(());
         }
-        self.write(self.alloc, output.name.as_str(), &output.bytes)
+        let input = match &output.input {
+            Some(input) => Some(input.as_str()),
+            None => None,
+        };
+        let to = Destination {
+            name: output.name.as_str(),
+            input,
+            is_new: output.is_new,
+        };
+        self.write(self.alloc, to, &output.bytes)
+    }
+
+    fn are_same(&self, one: &str, other: &str) -> bool {
+        one == other && self.files.get(one).is_some()
     }
 
     fn print<D: Display>(&mut self, text: &D) -> Result<(), Fault> {
@@ -281,10 +322,6 @@ impl<'a, R: Threads + Sync> Streams for Memory<'a, R> {
 
     fn tell<D: Display>(&mut self, text: &D) {
         let _ = self.append(text);
-    }
-
-    fn is_terminal(&self) -> bool {
-        self.is_terminal
     }
 
     fn said(&self) -> Option<io::Error> {
@@ -303,6 +340,10 @@ impl<'a, R: Threads + Sync> Working for Memory<'a, R> {
 
     fn counter(&self) -> &Counter {
         &self.counter
+    }
+
+    fn processors(&self) -> usize {
+        3
     }
 
     fn be_quiet(&mut self) {
@@ -375,6 +416,21 @@ impl<'a, R: Threads + Sync> Folders for Memory<'a, R> {
 
     fn tell_left(&mut self, _folder: &MemoryShelf) {}
 
+    fn unjudged(&mut self, alloc: Global, _folder: &str) -> Result<Vec<Unjudged>, Fault> {
+        let mut found = Vec::new(alloc);
+        for (name, is_folder) in &self.others {
+            found.push(Unjudged {
+                name: String::from_str(alloc, name)?,
+                is_folder: *is_folder,
+            })?;
+        }
+        Ok(found)
+    }
+
+    fn answer_for(&mut self, names: Vec<String>) {
+        self.hosts = names;
+    }
+
     fn serve(
         &mut self,
         alloc: Global,
@@ -385,7 +441,7 @@ impl<'a, R: Threads + Sync> Folders for Memory<'a, R> {
         if serving.port == 1 {
             return Err(self.refused(ErrorKind::AddrInUse));
         }
-        let line = listening(alloc, archive.list().len(), serving.port)?;
+        let line = listening(alloc, archive.list().len(), serving.port, serving.unserved)?;
         self.append(&line)?;
         let how = format!(in alloc;
             "{:?} {} {} {}",
@@ -406,7 +462,7 @@ impl<'a, R: Threads + Sync> Folders for Memory<'a, R> {
             return Err(self.refused(ErrorKind::AddrInUse));
         }
         let Meanwhile { names, watch } = meanwhile;
-        let line = opening(alloc, names.len(), serving.port)?;
+        let line = opening(alloc, names.len(), serving.port, serving.unserved)?;
         self.append(&line)?;
         for name in &names {
             let name = format!(in alloc; "{name} ")?;

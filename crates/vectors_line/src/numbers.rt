@@ -13,14 +13,17 @@ use vectors::{Line, equal_at};
 static NEGATIVE: &str = "\
 decode - - --x -5 --y 0 --w 1 --h 1|invalid value '-5' for '--x <N>': -5 is not in 0..=4294967295
 decode - - --x 0 --y 0 --w 1 --h -1|invalid value '-1' for '--h <N>': -1 is not in 0..=4294967295
-decode - - --reduce -1|invalid value '-1' for '--reduce <D>': -1 is not in 0..=4294967295
+decode - - --reduce -1|error: --reduce is -1, and may be 0 to 10
 cut - - --x 0 --y -2 --w 1 --h 1|invalid value '-2' for '--y <N>': -2 is not in 0..=4294967295
-encode - - --levels -3|invalid value '-3' for '--levels <N>': -3 is not in 0..=4294967295
-encode - - --tile-width -3|invalid value '-3' for '--tile-width <N>': -3 is not in 0..=4294967295
+encode - - --levels -3|error: --levels is -3, and may be 0 to 5
+encode - - --levels abc|error: --levels is abc, and may be 0 to 5
+encode - - --tile-width -3|error: --tile-width is -3, and may be 1 to 2147483647
+encode - - --workers -1|error: --workers is -1, and may be 1 to 64, or auto
+encode - - --workers many|error: --workers is many, and may be 1 to 64, or auto
 encode - - --x0 -1.5|invalid value '-1.5' for '--x0 <N>': invalid digit found in string
 encode - - --order -1|invalid value '-1' for '--order <ORDER>'
-add d a - --levels=-3|invalid value '-3' for '--levels <N>': -3 is not in 0..=4294967295
-serve d --port -80|invalid value '-80' for '--port <P>': -80 is not in 0..=65535
+add d a - --levels=-3|error: --levels is -3, and may be 0 to 5
+serve d --port -80|error: --port is -80, and may be 0 to 65535
 serve d --port 80 --connections -1|invalid value '-1' for '--connections <K>': -1 is not in 0..=4294967295";
 
 /// Runs a command line that is refused for a number.
@@ -52,6 +55,7 @@ fn negative_precincts_are_judged(rt: HostRuntime) {
     let mut world = Memory::new(&rt, alloc, bytes(&rt, alloc, &[GREY]));
     let line = "encode - - --explain --precincts -1";
     let error =
-        "jk: F15 BadParameters\n--precincts is -1, and may have pairs of hexadecimal digits\n";
+        "jk: F15 BadParameters\n--precincts is -1, and may be WIDTH,HEIGHT, powers of two up to 32768, \
+or pairs of hexadecimal digits\n";
     check_run(&rt, alloc, &mut world, line, Status::Refused, &[], error)
 }

@@ -158,6 +158,24 @@ fn write_and_rename<S: Shelf>(rt: &impl Abort, alloc: Global, folder: &mut S) ->
     (file.as_slice() == b"next".as_slice(), names.len())
 }
 
+/// Gives a file a name that is taken, and then again one that is free. Whether it has each, whether
+/// what had the first is as it was, and whether the file is left.
+fn place_twice<S: Shelf>(rt: &impl Abort, alloc: Global, folder: &mut S) -> [bool; 4] {
+    write(rt, folder, alloc, "d.tmp", b"first");
+    let taken = folder
+        .place(alloc, "d.tmp", "b.jp2")
+        .expect(rt, "an answer");
+    let is_left = read(folder, alloc, "d.tmp").is_ok();
+    write(rt, folder, alloc, "d.tmp", b"second");
+    let free = folder
+        .place(alloc, "d.tmp", "d.jp2")
+        .expect(rt, "an answer");
+    let old = read(folder, alloc, "b.jp2").expect(rt, "a file");
+    let new = read(folder, alloc, "d.jp2").expect(rt, "a file");
+    let stays = old.as_slice() == b"next".as_slice() && new.as_slice() == b"second".as_slice();
+    [taken, free, stays, is_left]
+}
+
 /// The name at which the last call failed.
 fn trouble<R: Files + Drop>(folder: &Folder<R>) -> &str {
     match folder.trouble() {
@@ -211,9 +229,11 @@ fn files_of_a_directory(rt: HostRuntime) {
     let failed = Some(Fault::Shelf);
     equal(&rt, read(&mut folder, alloc, "c.jp2").err(), failed);
     equal(&rt, trouble(&folder), "c.jp2");
+    let placed = place_twice(&rt, alloc, &mut folder);
+    equal(&rt, placed, [false, true, true, false]);
     let second = fail_four(&rt, alloc, &mut folder, path.as_str());
     equal(&rt, trouble(&folder), "");
-    equal(&rt, second, ([failed, failed, failed, failed], 5));
+    equal(&rt, second, ([failed, failed, failed, failed], 6));
 }
 
 #[test]

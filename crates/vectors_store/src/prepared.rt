@@ -7,7 +7,7 @@ use crate::calls::{
 };
 use crate::contents::Content;
 use crate::dressed::asked;
-use crate::shelves::{Act, act_at};
+use crate::shelves::{Act, Acting, CAME, act_at};
 use jk_math::Fault;
 use jk_params::Container;
 use jk_store::{Encoded, MemoryShelf, Shelf, added_text, refused_text};
@@ -141,6 +141,38 @@ fn images_are_stored(rt: HostRuntime) {
     let refused = Encoded::refused(alloc, "a", Fault::BadPnm).expect(&rt, "an image");
     let due = (Some(Fault::BadPnm), None, Some(true));
     equal(&rt, stored(&rt, alloc, &refused, 0), due);
+}
+
+/// Of a shelf on which another file came under the name of an image `a`: whether that is there, and
+/// whether the temporary one is.
+fn has_come(shelf: &mut Acting, alloc: Global) -> (bool, bool) {
+    let came = match read(shelf, alloc, "a.jp2") {
+        Ok(found) => found.as_slice() == CAME,
+        Err(_) => false,
+    };
+    (came, read(shelf, alloc, "a.tmp").is_ok())
+}
+
+/// A file that comes under the name of an image while it is stored isn't replaced: the image is
+/// refused.
+#[test]
+fn what_comes_meanwhile_stays(rt: HostRuntime) {
+    let alloc = rt.alloc();
+    let plain = plain(alloc, Container::Jp2);
+    // The calls are: write, place.
+    let mut shelf = act_at(shelf_of(&rt, alloc, &[]), 2, Act::Come);
+    let image = encoded(&rt, alloc, "a", &plain, None);
+    let fault = store(&image, alloc, &mut shelf).err();
+    let found = (fault, has_come(&mut shelf, alloc));
+    equal(&rt, found, (Some(Fault::NameTaken), (true, false)));
+    // The calls are: list, write, place.
+    let mut archive = open(&rt, alloc, act_at(shelf_of(&rt, alloc, &[]), 3, Act::Come));
+    let image = prepared(&rt, alloc, "a", &plain, None);
+    let fault = add_prepared(&mut archive, alloc, image).err();
+    let count = archive.list().len();
+    let mut shelf = archive.into_shelf();
+    let found = (fault, count, shelf.failures(), has_come(&mut shelf, alloc));
+    equal(&rt, found, (Some(Fault::NameTaken), 0, 0, (true, false)));
 }
 
 /// What was stored is listed by the next opening, and more can be added to it.

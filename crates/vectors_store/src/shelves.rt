@@ -15,7 +15,12 @@ pub(crate) enum Act {
     Fail,
     /// It gives a byte more, where it is a read.
     Change,
+    /// Another file comes under the name first, where a file is placed.
+    Come,
 }
+
+/// The file that comes under a name.
+pub(crate) const CAME: &[u8] = b"came";
 
 /// A shelf in memory that acts at one of its calls, and at no other. It counts the stretches that
 /// are read of its files, and their bytes.
@@ -83,7 +88,7 @@ impl Shelf for Acting {
     fn read(&mut self, alloc: Global, name: &str) -> Result<Vec<u8>, Fault> {
         self.failures.ready()?;
         let changes = self.act == Act::Change;
-        if self.acts(self.act) {
+        if self.acts(self.act) && self.act != Act::Come {
             if !changes {
                 return Err(self.failures.fail());
             }
@@ -104,7 +109,7 @@ impl Shelf for Acting {
     ) -> Result<Vec<u8>, Fault> {
         self.failures.ready()?;
         let changes = self.act == Act::Change;
-        if self.acts(self.act) {
+        if self.acts(self.act) && self.act != Act::Come {
             if !changes {
                 return Err(self.failures.fail());
             }
@@ -135,6 +140,21 @@ impl Shelf for Acting {
             return Err(self.failures.fail());
         }
         let answer = self.inner.rename(alloc, from, to);
+        self.failures.counted(answer)
+    }
+
+    fn place(&mut self, alloc: Global, from: &str, to: &str) -> Result<bool, Fault> {
+        self.failures.ready()?;
+        let act = self.act;
+        let due = self.acts(act);
+        if due && act == Act::Fail {
+            return Err(self.failures.fail());
+        }
+        if due && act == Act::Come {
+            let came = self.inner.write(alloc, to, CAME);
+            self.failures.counted(came)?;
+        }
+        let answer = self.inner.place(alloc, from, to);
         self.failures.counted(answer)
     }
 
@@ -222,6 +242,10 @@ impl Shelf for Many {
         Ok(())
     }
 
+    fn place(&mut self, _alloc: Global, _from: &str, _to: &str) -> Result<bool, Fault> {
+        Ok(true)
+    }
+
     fn failures(&self) -> u64 {
         0
     }
@@ -294,6 +318,10 @@ impl Shelf for Roomy {
 
     fn rename(&mut self, _alloc: Global, _from: &str, _to: &str) -> Result<(), Fault> {
         Ok(())
+    }
+
+    fn place(&mut self, _alloc: Global, _from: &str, _to: &str) -> Result<bool, Fault> {
+        Ok(true)
     }
 
     fn failures(&self) -> u64 {

@@ -92,12 +92,23 @@ def linked(paths: Sequence[str], folder: str) -> None:
         os.symlink(os.path.abspath(path), os.path.join(folder, f"{name}.jp2"))
 
 
+def knows_hosts(program: str) -> bool:
+    """Whether `jk serve` of this program has the option --host-names, which that of jk 0.3.2 lacks."""
+    try:
+        told = subprocess.run([program, "serve", "--help"], stdin=subprocess.DEVNULL, capture_output=True, timeout=SOON * 10)
+    except (OSError, subprocess.TimeoutExpired):
+        return False
+    return b"--host-names" in told.stdout
+
+
 class Served:
     """`jk serve` over a folder, how many images it has, and the port that it listens at. What it tells goes on to
     standard error."""
 
     def __init__(self, program: str, folder: str, workers: int) -> None:
         words = [program, "serve", folder, "--port", "0", "--workers", str(workers)]
+        if knows_hosts(program):
+            words += ["--host-names", "127.0.0.1"]
         try:
             # Its standard input stays open, since it would end without. Ctrl-C ends this process, which ends it.
             # Bytes that are no UTF-8, as another program than jk's may tell, must not end what reads them.

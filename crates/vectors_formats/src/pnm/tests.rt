@@ -3,7 +3,8 @@ ghost use Rattle.std.specs.Prelude.{◌≤◌};
 use crate::pnm::cases::{Case, OTHERS, REFUSED, Row, WRITTEN, spelled};
 use jk_math::{Fault, Image};
 use jk_pnm::{
-    RasterFrame, read, read_owned, write, write_head_into, write_into, write_raster_into,
+    NoHeader, RasterFrame, no_header, read, read_owned, write, write_head_into, write_into,
+    write_raster_into,
 };
 use std::alloc::Global;
 use std::process::Abort;
@@ -197,6 +198,49 @@ fn fronts(rt: HostRuntime) {
     let file = b"P5\n1 1\n255\n\x80";
     for length in 0..file.len() {
         refused(&rt, rt.alloc(), &file[..length]);
+    }
+}
+
+/// Fronts of files, and why no bytes behind them make a header of them, if that is so.
+static BEGINNINGS: [(&str, Option<NoHeader>); 26] = [
+    ("", None),
+    ("P", None),
+    ("P5", None),
+    ("P6%09", None),
+    ("P5 #", None),
+    ("P5#1 1 255 %0a", None),
+    ("P5 00", None),
+    ("P5 268435456", None),
+    ("P5 1 1 25", None),
+    ("P5 1 1 256", None),
+    ("P5 1 1 255", None),
+    ("P5 1 1 255 ", None),
+    ("P6 16384 16384 65535%0a%00", None),
+    ("%00", Some(NoHeader::Magic)),
+    ("p", Some(NoHeader::Magic)),
+    ("P4", Some(NoHeader::Magic)),
+    ("5P", Some(NoHeader::Magic)),
+    ("P5x", Some(NoHeader::Numbers)),
+    ("P51", Some(NoHeader::Numbers)),
+    ("P5 0 ", Some(NoHeader::Numbers)),
+    ("P5 1 -", Some(NoHeader::Numbers)),
+    ("P5 268435457", Some(NoHeader::Numbers)),
+    ("P5 1 1 256 ", Some(NoHeader::Maxval(256))),
+    ("P5 1 1 131071#", Some(NoHeader::Maxval(131_071))),
+    ("P5 1 1 255#", Some(NoHeader::Space)),
+    (
+        "P5 16385 16384 255 ",
+        Some(NoHeader::Pixels(16_385, 16_384)),
+    ),
+];
+
+/// Whether a header may come of the front of a file.
+#[test]
+fn beginnings(rt: HostRuntime) {
+    let alloc = rt.alloc();
+    for (front, due) in BEGINNINGS {
+        let bytes = spelled(&rt, alloc, front);
+        equal_at(front, no_header(&bytes), due).expect(&rt, "whether a header may come");
     }
 }
 

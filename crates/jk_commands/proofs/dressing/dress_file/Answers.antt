@@ -1,4 +1,3 @@
-use Rattle.std.proofs.Common.{ℕ}
 use Rattle.jk_math.specs.Steps.{if_ok}
 use Rattle.jk_commands.proofs.dressing.dress_file.Goals as goal
 

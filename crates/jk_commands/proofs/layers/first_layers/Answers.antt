@@ -1,4 +1,4 @@
-use Rattle.std.proofs.Common.{◌≡◌, ℕ, Some, sym, subst}
+use Rattle.std.proofs.Common.{ℕ, subst}
 use Rattle.std.specs.Prelude.{IfOk}
 use Rattle.std.specs.Global.{Vec}
 use Rattle.jk_math.specs.Answer.{Answers}
@@ -6,7 +6,6 @@ use Rattle.jk_window.specs.declared.view.View.{View}
 use Rattle.jk_window.specs.Cutting.{cut_file}
 use Rattle.jk_code.specs.Meaning.{MeansLayers}
 use Rattle.jk_code.specs.Windows.{IsWindowOf}
-use Rattle.jk_commands.specs.Dressing.{whole_view}
 use Rattle.jk_commands.proofs.layers.first_layers.Goals as goal
 
 pub returns-clause-exact : goal.returns-clause-exact

@@ -25,7 +25,7 @@ loop-image-preserved-in-Ok g c =
     record {
       each = λ more rest on.
           subst (λ es. ListEach start all (es ++ more) (passed ++ rest)) (sym pushed)
-          (listed_on start now (entries_of c.list_prepared.new.self) p left all done passed e (is.allowed, is.stands) is.listed (λ m r h. inv.each m r (subst (λ xs. ListEach now xs m r) (sym split) h)) more rest on);
+          (listed_on start now (entries_of c.list_one.new.archive) p left all done passed e is.ok is.listed (λ m r h. inv.each m r (subst (λ xs. ListEach now xs m r) (sym split) h)) more rest on);
       added = is.listed ∙ ap (λ es. es ++ e ∷ []) inv.added ∙ append_assoc start done (e ∷ []) ∙ ap (λ es. start ++ es) (sym pushed);
       room = omega (arith, c.push_reserved.ensures.len, c.push_reserved.ensures.capacity, len, inv.room);
       places = omega (arith, len, inv.places);
@@ -41,13 +41,13 @@ loop-image-preserved g c =
     let all = c.args.images.items in
     let done = map arc_value c.loop-image.entries.items in
     let passed = c.loop-image.passed.items in
-    let same : entries_of c.list_prepared.new.self ≡ now = ap (map arc_value) c.in-Err.ensures.err in
+    let same : entries_of c.list_one.new.archive ≡ now = c.in-Err.ensures.same in
     let split = c.in-Some.ensures.steps.0 in
     let len = ap (λ (xs : List _). length xs) split in
     record {
       each = λ more rest on.
           subst (λ ks. ListEach start all (done ++ more) (ks ++ rest)) (sym c.push_reserved-in-Err.ensures.items)
-          (passed_on start now (entries_of c.list_prepared.new.self) p left all done passed _ (ap string_bytes c.into_name-name.ensures, c.in-Err.ensures.cause) same (λ m r h. inv.each m r (subst (λ xs. ListEach now xs m r) (sym split) h)) more
+          (passed_on start now (entries_of c.list_one.new.archive) p left all done passed _ c.in-Err.ensures.passed same (λ m r h. inv.each m r (subst (λ xs. ListEach now xs m r) (sym split) h)) more
           rest on);
       added = same ∙ inv.added;
       room = omega (arith, len, inv.room);

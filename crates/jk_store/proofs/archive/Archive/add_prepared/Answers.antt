@@ -3,10 +3,10 @@ use Rattle.std.specs.Arc.{arc_value}
 use Rattle.std.specs.String.{string_bytes}
 use Rattle.jk_store.specs.Names.{temporary_name, file_name}
 use Rattle.jk_store.specs.Catalogue.{IsEntryOf}
-use Rattle.jk_store.specs.Adding.{judged_name, IsUnstored}
+use Rattle.jk_store.specs.Adding.{judged_name, IsUnplaced}
 use Rattle.jk_store.specs.Preparing.{ready_bytes, due_beside}
 use Rattle.jk_store.specs.Showing.{ShowImages, StandForImages}
-use Rattle.jk_store.proofs.DueLaws.{stands_due, holds_due, image_due, left_due, cause_due, passes_too}
+use Rattle.jk_store.proofs.DueLaws.{stands_due, holds_due, image_due, left_due, cause_placed_due, passes_too}
 use Rattle.jk_store.proofs.StoringLaws.{added_judged, added_refused, not_due, passed_on}
 use Rattle.jk_store.proofs.archive.Archive.add_prepared.Goals as goal
 
@@ -59,8 +59,8 @@ returns-clause-left g c = λ files kept.
 pub returns-clause-cause : goal.returns-clause-cause
 returns-clause-cause g c =
     let name = string_bytes c.args.prepared.name in
-    cause_due _ _ (ap ready_bytes c.in_ok-ready.was) (λ e. judged_name (map arc_value c.args.self.now.entries.items) name ≡ Err e)
-    (IsUnstored g.S.Shelf.unwritten g.S.Shelf.unrenamed (temporary_name name) (file_name name) c.args.self.now.shelf c.enter.new.self.shelf) c.enter.result
+    cause_placed_due _ _ (ap ready_bytes c.in_ok-ready.was) (λ e. judged_name (map arc_value c.args.self.now.entries.items) name ≡ Err e)
+    (IsUnplaced g.S.Shelf.unwritten g.S.Shelf.unplaced g.S.Shelf.taken (temporary_name name) (file_name name) c.args.self.now.shelf c.enter.new.self.shelf) c.enter.result
     (rw c.as_str-name.ensures.value at c.enter.ensures.cause)
 
 pub returns-clause-counts : goal.returns-clause-counts
@@ -86,3 +86,6 @@ returns-in_err-ready-clause-judged g c = λ e due.
           (added_judged entries (string_bytes c.args.prepared.name) (ready_bytes made) judged ∙ ap ready_bytes c.in_err-ready.was) due,
       refl,
     )
+
+pub returns-clause-free : goal.returns-clause-free
+returns-clause-free g c = λ files b kept is. (rw c.as_str-name.ensures.value at c.enter.ensures.free) refl files b kept is

@@ -4,7 +4,7 @@ use Rattle.jk_math.specs.Memory.{IsMemory}
 use Rattle.jk_math.specs.declared.fault.Fault.TheVariants.{Shelf}
 use Rattle.jk_store.specs.Files.{Files}
 use Rattle.jk_store.specs.Names.{temporary_name, file_name}
-use Rattle.jk_store.specs.Adding.{IsLeftByAdd, IsUnstored}
+use Rattle.jk_store.specs.Adding.{IsLeftByAdd, WhyUnstored}
 use Rattle.jk_store.proofs.OpenLaws.{fault_is}
 use Rattle.jk_store.proofs.AddedLaws.{archive_shows, archive_keeps, added}
 use Rattle.jk_store.proofs.AddLaws.{archive_named, archive_few}
@@ -31,7 +31,7 @@ pub returns-in_err-store_named-clause-cause : goal.returns-in_err-store_named-cl
 returns-in_err-store_named-clause-cause g c =
     let name = c.args.name.now in
     fault_is c.from_residual-in_err-store_named.result c.in_err-store_named.field-0.0 c.from_residual-in_err-store_named.ensures.1
-    (λ e. IsMemory e ⊎ ((e ≡ Shelf) × IsUnstored g.S.Shelf.unwritten g.S.Shelf.unrenamed (temporary_name name) (file_name name) c.args.self.now.shelf c.store_named.new.shelf))
+    (WhyUnstored c.args.naming g.S.Shelf.unwritten g.S.Shelf.unrenamed g.S.Shelf.unplaced g.S.Shelf.taken (temporary_name name) (file_name name) c.args.self.now.shelf c.store_named.new.shelf)
     c.in_err-store_named.ensures.cause
 
 pub returns-clause-shows : goal.returns-clause-shows

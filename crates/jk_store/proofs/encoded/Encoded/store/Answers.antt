@@ -1,10 +1,10 @@
 use Rattle.std.proofs.Common.{◌≡◌, Err}
 use Rattle.std.specs.String.{string_bytes}
 use Rattle.jk_store.specs.Names.{temporary_name, file_name}
-use Rattle.jk_store.specs.Adding.{IsUnstored}
+use Rattle.jk_store.specs.Adding.{IsUnplaced}
 use Rattle.jk_store.specs.Preparing.{due_file}
 use Rattle.jk_store.proofs.DueLaws.{holds_due, left_due, passes_too}
-use Rattle.jk_store.proofs.StoringLaws.{cause_stored, not_due, on_any}
+use Rattle.jk_store.proofs.StoringLaws.{cause_placed, not_due, on_any}
 use Rattle.jk_store.proofs.encoded.Encoded.store.Goals as goal
 
 pub returns-clause-judged : goal.returns-clause-judged
@@ -22,7 +22,7 @@ returns-clause-holds g c = λ files f kept is.
 pub returns-clause-cause : goal.returns-clause-cause
 returns-clause-cause g c =
     let name = string_bytes c.args.self.now.name in
-    cause_stored _ _ c.in_ok-bytes.ensures (IsUnstored g.S.Shelf.unwritten g.S.Shelf.unrenamed (temporary_name name) (file_name name) c.args.shelf.now c.store_named.new.shelf) c.store_named.result
+    cause_placed _ _ c.in_ok-bytes.ensures (IsUnplaced g.S.Shelf.unwritten g.S.Shelf.unplaced g.S.Shelf.taken (temporary_name name) (file_name name) c.args.shelf.now c.store_named.new.shelf) c.store_named.result
     (rw c.as_str.ensures.value at c.store_named.ensures.cause)
 
 pub returns-clause-left : goal.returns-clause-left
