@@ -98,6 +98,13 @@ OTHERWISE = (
     (IN_MEMORY, FRONT, DISK),
     ("vectors_files beside::where_no_file_is", r'left: "look d/out;ask "', DISK),
     ("vectors_files locking::waiting", r"left: \(\(false, [01]\), \d+\)\n right: ", DISK),
+    # What the test's disk can't note is passed over where left files are looked for, and where one is removed.
+    ("vectors_files (beside|output|replacing)::", r'calls: \n  left: "', DISK),
+    ("vectors_files (output|writing)::", r"paths: \n  left: [1-4]\n right: [01]\b", DISK),
+    # Its calls are counted: one that can't be noted lets a later one fail, behind which the new file has the path.
+    ("vectors_files (output|replacing)::failing_at_each_call", r'a file: "d/out"\n  left: \[110, 101, 119\]\n', DISK),
+    ("vectors_files output::folder_that_fails", r'a file: "d/out"\n  left: \[111, 108, 100\]\n', DISK),
+    ("vectors_files output::folder_that_fails", r"d/out: Kind\(NotFound\)", DISK),
     ("vectors_files writing::names", r"left: \[.*false.*\]\n right: \[true, true, true, true\]", DISK),
     ("vectors_files (output|replacing|beside)::failing_at_each_call", r"left: 2\n right: 1", DISK),
     ("vectors_files (output::a_pipe|replacing::as_it_is)", r'left: "look d/pipe;.*write d/pipe;"', DISK),

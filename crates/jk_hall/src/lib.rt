@@ -14,6 +14,7 @@ mod reader;
 mod rule;
 mod serving;
 mod shown;
+mod start;
 mod told;
 mod writer;
 
@@ -23,5 +24,6 @@ pub use law::{cut_texts_begin_whole_ones, lists_looked_at_grow};
 pub use place::Place;
 pub use reader::Reader;
 pub use serving::serve_all;
+pub use start::Start;
 pub use told::Told;
 pub use writer::Writer;

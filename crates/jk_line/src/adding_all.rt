@@ -187,6 +187,14 @@ fn stored<W: World>(
     }
 }
 
+/// Whether a text begins with the name of this file.
+fn names_first(text: &str, path: &str) -> bool {
+    match text.strip_prefix(path) {
+        Some(rest) => rest.starts_with(' ') || rest.starts_with(':'),
+        None => false,
+    }
+}
+
 /// Prints to standard error why the image of a file wasn't added.
 fn report_path<W: Streams>(
     alloc: Global,
@@ -198,7 +206,7 @@ fn report_path<W: Streams>(
         Some(words) => words.as_str(),
         None => cause_of(&failure.fault),
     };
-    let text = if words.starts_with(path) {
+    let text = if names_first(words, path) {
         format!(in alloc; "jk: {words}\n")?
     } else {
         format!(in alloc; "jk: {path}: {words}\n")?

@@ -1,5 +1,6 @@
 //! Archives that are opened and served.
 
+use crate::beside::MOST_IMAGES;
 use crate::failure::{Failure, of_world, with_words};
 use crate::serving::{Meanwhile, Serving};
 use crate::unjudged::count_unserved;
@@ -7,7 +8,7 @@ use crate::workers::workers;
 use crate::world::{Working, World};
 use jk_jobs::Open;
 use jk_math::Fault;
-use jk_store::{Archive, Images, Shelf, image_name};
+use jk_store::{Archive, Images, Prepared, Shelf, image_name};
 use jk_words::{Server, cause_of};
 use std::alloc::Global;
 
@@ -28,13 +29,22 @@ pub(crate) fn of_folder<W: World>(
     }
 }
 
-/// The archive of a folder, whose files so many workers judge.
+/// An archive, and the first fault for which a file was left out that might have been listed.
+#[derive(Drop)]
+struct Opened<F> {
+    archive: Archive<F>,
+    left_out: Option<Fault>,
+}
+
+/// The archive of a folder, whose files so many workers read. If there isn't enough memory for them,
+/// or there are too many images, the files are read one by one.
 fn open<W: World>(
     alloc: Global,
     world: &mut W,
     workers: usize,
     name: &str,
-) -> Result<Archive<W::Folder>, Failure> {
+    in_words: bool,
+) -> Result<Opened<W::Folder>, Failure> {
     let mut folder = match world.folder(alloc, name) {
         Ok(folder) => folder,
         Err(fault) => return Err(of_world(alloc, world, fault, name, "opened")),
@@ -45,10 +55,103 @@ fn open<W: World>(
     match read {
         Ok(images) => {
             let _ = world.tell_others(&folder);
-            Ok(Archive::with(folder, images))
+            let archive = Archive::with(folder, images);
+            tell_skipped(alloc, world, &archive, in_words)?;
+            Ok(Opened {
+                archive,
+                left_out: None,
+            })
+        }
+        Err(Fault::Memory(_)) | Err(Fault::Limit) => {
+            open_each(alloc, world, name, folder, in_words)
         }
         Err(fault) => Err(of_folder(alloc, world, fault, name, &folder)),
     }
+}
+
+/// Reads the file of an image, and lists it.
+fn list_one<S: Shelf>(
+    alloc: Global,
+    folder: &mut S,
+    archive: &mut Archive<S>,
+    image: &str,
+) -> Result<(), Fault> {
+    let prepared = Prepared::read(alloc, folder, image)?;
+    archive.list_prepared(&prepared)?;
+    Ok(())
+}
+
+/// The archive of a folder whose files are read and listed one by one. A file for which there isn't
+/// enough memory is reported and left out, and so are those after the first 4,096 images.
+fn open_each<W: World>(
+    alloc: Global,
+    world: &mut W,
+    name: &str,
+    folder: W::Folder,
+    in_words: bool,
+) -> Result<Opened<W::Folder>, Failure> {
+    let (mut reading, files) = listed(alloc, world, name)?;
+    let _ = world.tell_others(&reading);
+    let mut images = names_of(alloc, &files)?;
+    images.sort()?;
+    let mut archive = Archive::with(folder, Images::none(alloc));
+    let mut left_out = None;
+    for number in 0..images.len() {
+        let image = images[number].as_str();
+        match list_one(alloc, &mut reading, &mut archive, image) {
+            Ok(()) => {}
+            Err(Fault::Shelf) => {
+                return Err(of_folder(alloc, world, Fault::Shelf, name, &reading));
+            }
+            Err(fault) => {
+                let is_full = fault == Fault::Limit && MOST_IMAGES <= archive.list().len();
+                if is_full || matches!(fault, Fault::Memory(_)) {
+                    left_out = left_out.or(Some(fault));
+                }
+                if is_full {
+                    tell_beyond(alloc, world, image, images.len() - number - 1)?;
+                    break;
+                }
+                tell_unlisted(alloc, world, image, fault, in_words)?;
+            }
+        }
+    }
+    Ok(Opened { archive, left_out })
+}
+
+/// Writes to standard error that the file of an image isn't listed, nor so many files after it.
+fn tell_beyond<W: World>(
+    alloc: Global,
+    world: &mut W,
+    image: &str,
+    more: usize,
+) -> Result<(), Failure> {
+    if more == 0 {
+        return tell_unlisted(alloc, world, image, Fault::Limit, false);
+    }
+    let line = format!(in alloc;
+        "jk: {image}.jp2 and {more} files more aren't listed: {}\n",
+        Fault::Limit
+    )?;
+    world.tell(&line);
+    Ok(())
+}
+
+/// Writes to standard error that the file of an image isn't listed.
+fn tell_unlisted<W: World>(
+    alloc: Global,
+    world: &mut W,
+    image: &str,
+    fault: Fault,
+    in_words: bool,
+) -> Result<(), Failure> {
+    let line = format!(in alloc; "jk: {image}.jp2 isn't listed: {fault}\n")?;
+    world.tell(&line);
+    if in_words {
+        world.tell(&cause_of(&fault));
+        world.tell(&"\n");
+    }
+    Ok(())
 }
 
 /// Writes to standard error which files of an archive aren't listed.
@@ -59,12 +162,7 @@ fn tell_skipped<W: World>(
     in_words: bool,
 ) -> Result<(), Failure> {
     for file in archive.skipped() {
-        let line = format!(in alloc; "jk: {}.jp2 isn't listed: {}\n", file.name, file.fault)?;
-        world.tell(&line);
-        if in_words {
-            world.tell(&cause_of(&file.fault));
-            world.tell(&"\n");
-        }
+        tell_unlisted(alloc, world, file.name.as_str(), file.fault, in_words)?;
     }
     Ok(())
 }
@@ -125,11 +223,29 @@ fn host_names(alloc: Global, line: &Server<'_>) -> Result<Option<Vec<String>>, F
     Ok(Some(names))
 }
 
-/// Why an archive can't be served on a port.
-fn unserved<W: World>(alloc: Global, world: &mut W, fault: Fault, port: u16) -> Failure {
-    match format!(in alloc; "port {port}") {
-        Ok(subject) => of_world(alloc, world, fault, subject.as_str(), "served"),
-        Err(_) => Failure::from(fault),
+/// Why an archive can't be served on a port, or not all of it could.
+fn unserved<W: World>(
+    alloc: Global,
+    world: &mut W,
+    fault: Fault,
+    folder: &str,
+    port: u16,
+) -> Failure {
+    match fault {
+        Fault::Limit => with_words(
+            fault,
+            format!(in alloc;
+                "{folder} has more than {MOST_IMAGES} images, which is the most that are served"
+            ),
+        ),
+        Fault::Memory(_) => with_words(
+            fault,
+            format!(in alloc; "there isn't enough memory for all files of {folder}"),
+        ),
+        _ => match format!(in alloc; "port {port}") {
+            Ok(subject) => of_world(alloc, world, fault, subject.as_str(), "served"),
+            Err(_) => Failure::from(fault),
+        },
     }
 }
 
@@ -152,15 +268,18 @@ pub(crate) fn serve<W: World>(
     if let Err(fault) = world.share(alloc, folder) {
         return Err(of_world(alloc, world, fault, folder, "locked"));
     }
-    let opened = open(alloc, world, serving.workers, folder);
+    let opened = open(alloc, world, serving.workers, folder, in_words);
     world.release();
-    let archive = opened?;
-    tell_skipped(alloc, world, &archive, in_words)?;
+    let Opened { archive, left_out } = opened?;
     world.tell_left(archive.shelf());
     serving.unserved = count_unserved(alloc, world, folder)?;
-    match world.serve(alloc, folder, archive, serving) {
-        Ok(()) => Ok(()),
-        Err(fault) => Err(unserved(alloc, world, fault, serving.port)),
+    let trouble = match world.serve(alloc, folder, archive, serving) {
+        Ok(()) => left_out,
+        Err(fault) => Some(fault),
+    };
+    match trouble {
+        Some(fault) => Err(unserved(alloc, world, fault, folder, serving.port)),
+        None => Ok(()),
     }
 }
 
@@ -215,7 +334,7 @@ fn serve_opening<W: World>(
     serving.unserved = count_unserved(alloc, world, name)?;
     match world.serve_opening(alloc, name, archive, serving, meanwhile) {
         Ok(()) => Ok(()),
-        Err(fault) => Err(unserved(alloc, world, fault, serving.port)),
+        Err(fault) => Err(unserved(alloc, world, fault, name, serving.port)),
     }
 }
 

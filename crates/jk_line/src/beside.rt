@@ -9,7 +9,7 @@ use jk_store::{Archive, Encoded, Images, Shelf, is_good_name, judge_name};
 use std::alloc::Global;
 
 /// How many images an archive has at most.
-const MOST_IMAGES: usize = 4096;
+pub(crate) const MOST_IMAGES: usize = 4096;
 
 /// Why an image isn't stored: the folder can't be used, or the image is refused.
 #[derive(Drop)]

@@ -74,6 +74,16 @@ fn put(
     Ok(())
 }
 
+/// Puts a text into an object.
+fn put_text(
+    alloc: Global,
+    object: &mut Map<String, Value>,
+    name: &str,
+    text: &str,
+) -> Result<(), AllocError> {
+    put(alloc, object, name, Value::try_from_str(alloc, text)?)
+}
+
 /// Puts the words of the first line into an object.
 fn put_words(alloc: Global, object: &mut Map<String, Value>, line: &str) -> Result<(), AllocError> {
     for (name, word) in WORDS.iter().zip(line.split(' ')) {
@@ -92,12 +102,7 @@ fn line_of(alloc: Global, object: Map<String, Value>) -> Result<String, AllocErr
 /// What a file of a name holds, as the lines of `jk info --all` have it, as an object.
 pub(crate) fn info_object(alloc: Global, name: &str, text: &str) -> Result<String, AllocError> {
     let mut object = Map::new(alloc);
-    put(
-        alloc,
-        &mut object,
-        "file",
-        Value::try_from_str(alloc, name)?,
-    )?;
+    put_text(alloc, &mut object, "file", name)?;
     let (first, others) = text.split_once('\n').unwrap_or((text, ""));
     put_words(alloc, &mut object, first)?;
     for line in others.split('\n') {
@@ -111,18 +116,8 @@ pub(crate) fn info_object(alloc: Global, name: &str, text: &str) -> Result<Strin
 /// A file of a name that has an error, as an object.
 pub(crate) fn error_object(alloc: Global, name: &str, fault: Fault) -> Result<String, AllocError> {
     let mut object = Map::new(alloc);
-    put(
-        alloc,
-        &mut object,
-        "file",
-        Value::try_from_str(alloc, name)?,
-    )?;
+    put_text(alloc, &mut object, "file", name)?;
     let error = format!(in alloc; "{fault}")?;
-    put(
-        alloc,
-        &mut object,
-        "error",
-        Value::try_from_str(alloc, error.as_str())?,
-    )?;
+    put_text(alloc, &mut object, "error", error.as_str())?;
     line_of(alloc, object)
 }

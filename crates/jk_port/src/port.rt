@@ -64,6 +64,7 @@ pub fn bind<R: Net<Listener = TcpListener, Stream = TcpStream>>(
 }
 
 /// The connections that come on a port, so many. One that can't be taken counts as one of them.
+/// Before the first one is taken a text is written to standard error.
 #[derive(Drop)]
 pub struct Arriving<R> {
     rt: R,
@@ -73,6 +74,8 @@ pub struct Arriving<R> {
     // How long a read or a write may wait, in milliseconds.
     wait: u64,
     log: Option<Arc<Log>>,
+    // What is written when the first connection is waited for.
+    started: String,
     // How many were taken, or couldn't be.
     taken: AtomicU64,
     row: Mutex<Row>,
@@ -81,6 +84,7 @@ pub struct Arriving<R> {
 
 impl<R: Clone> Arriving<R> {
     /// So many connections of a port. A read or a write on one may wait for so many milliseconds.
+    /// The text is written to standard error before the first one is taken.
     pub fn new(
         rt: R,
         alloc: Global,
@@ -88,6 +92,7 @@ impl<R: Clone> Arriving<R> {
         most: u64,
         wait: u32,
         log: Option<Arc<Log>>,
+        started: String,
     ) -> Arriving<R> {
         Arriving {
             rt,
@@ -96,6 +101,7 @@ impl<R: Clone> Arriving<R> {
             most,
             wait: wait as u64,
             log,
+            started,
             taken: AtomicU64::new(0),
             row: Mutex::new(Row::none()),
         }
@@ -159,7 +165,11 @@ impl<R: Clock + Wait + Eprint + Clone + Drop + Send + Sync> Source for Arriving<
 
     fn take(&self) -> Option<Connection<Incoming<R>, Outgoing<R>, Listener<R>>> {
         for _connection in 0..u64::MAX {
-            if self.taken.fetch_add(1, Ordering::SeqCst) >= self.most {
+            let number = self.taken.fetch_add(1, Ordering::SeqCst);
+            if number == 0 {
+                let _ = self.rt.eprint(self.started.as_str());
+            }
+            if number >= self.most {
                 return None;
             }
             match self.connection() {

@@ -48,12 +48,13 @@ pub(crate) fn shelves<R: Files + Clone + Drop>(
     Ok(shelves)
 }
 
-/// The connections of a port, as they are asked for.
+/// The connections of a port, as they are asked for, and what is said when serving begins.
 fn arriving<R: Clone>(
     rt: &R,
     alloc: Global,
     port: Port,
     serving: Serving,
+    started: String,
 ) -> Result<Arriving<R>, Fault> {
     let log = if serving.log {
         Some(Arc::new(alloc, Log::new(alloc))?)
@@ -61,7 +62,8 @@ fn arriving<R: Clone>(
         None
     };
     let wait = serving.timeout.saturating_mul(1000);
-    Ok(Arriving::new(rt.clone()?, alloc, port, connections(serving), wait, log))
+    let own = rt.clone()?;
+    Ok(Arriving::new(own, alloc, port, connections(serving), wait, log, started))
 }
 
 /// Tells how many connections were served.
@@ -85,8 +87,8 @@ where
 {
     let images = desk.archive.list().len();
     let started = listening(alloc, images, port.number, serving.unserved)?;
-    let arriving = arriving(rt, alloc, port, serving)?;
-    let all = jk_serve::serve_port(rt, alloc, desk, shelves, &arriving, started.as_str())?;
+    let arriving = arriving(rt, alloc, port, serving, started)?;
+    let all = jk_serve::serve_port(rt, alloc, desk, shelves, &arriving)?;
     tell_served(rt, alloc, all)
 }
 
@@ -127,8 +129,7 @@ where
 {
     let (port, serving) = asked;
     let started = opening(alloc, files.names.len(), port.number, serving.unserved)?;
-    let arriving = arriving(rt, alloc, port, serving)?;
-    let _ = rt.eprint(started.as_str());
+    let arriving = arriving(rt, alloc, port, serving, started)?;
     let all = jk_serve::serve_opening(rt, alloc, desk, files, shelves, &arriving, streams)?;
     tell_served(rt, alloc, all)
 }

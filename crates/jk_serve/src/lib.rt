@@ -3,6 +3,7 @@
 #![tactic(auto)]
 
 mod asked;
+mod beginning;
 mod desk;
 mod distant_desk;
 mod finder;

@@ -7,9 +7,6 @@ use std::alloc::Global;
 use std::sync::{Condvar, CondvarTimeouts, Mutex, Wait};
 use std::time::{Clock, Duration};
 
-/// How many seconds are waited for a thread to begin.
-const PATIENCE: u64 = 10;
-
 /// What an operator asks of who has the archive.
 #[derive(Drop)]
 pub(crate) enum Request {
@@ -48,9 +45,6 @@ struct Kept {
     names: Asked,
     request: Option<Request>,
     answer: Option<Result<Outcome, Fault>>,
-    // Whether those who tell have begun, and whether they are waited for no longer.
-    has_begun: bool,
-    is_given_up: bool,
     // Whether serving has ended, and whether the operator's lines have.
     is_served: bool,
     is_followed: bool,
@@ -94,35 +88,12 @@ impl Post {
                 names: Asked::none(alloc),
                 request: None,
                 answer: None,
-                has_begun: false,
-                is_given_up: false,
                 is_served: false,
                 is_followed: false,
             }),
             told: Condvar::new(),
             answered: Condvar::new(),
         }
-    }
-
-    /// Those who tell begin, if they are still waited for.
-    pub(crate) fn begin<R: Wait>(&self, rt: &R) -> bool {
-        let mut kept = self.kept.lock(rt);
-        kept.has_begun = true;
-        let is_due = !kept.is_given_up;
-        drop(kept);
-        self.told.notify_all();
-        is_due
-    }
-
-    /// Waits for those who tell, and whether they have begun. They are waited for no longer.
-    pub(crate) fn meet<R: Wait + Clock>(&self, rt: &R) -> bool {
-        let kept = self.kept.lock(rt);
-        let time = Duration::from_secs(PATIENCE);
-        let (mut kept, _) = self
-            .told
-            .wait_timeout_while(rt, kept, time, |kept| !kept.has_begun);
-        kept.is_given_up = true;
-        kept.has_begun
     }
 
     /// Keeps a name, where the lock can be had at once: who asks waits for nobody.

@@ -1,11 +1,13 @@
 //! Serving an archive over sockets.
 
 ghost use Rattle.std.specs.Prelude.{◌≡◌, ◌<◌, vec_len};
+ghost use Rattle.std.specs.Thread.{IsSync, IsSend};
 
+use crate::beginning::Beginning;
 use crate::desk::{Desk, Keeper};
 use crate::operating::operate;
 use crate::table::entries;
-use jk_hall::{Hall, Reader, Writer, serve_all};
+use jk_hall::{Hall, Reader, Source, Start, Writer, serve_all};
 use jk_jobs::Open;
 use jk_math::Fault;
 use jk_port::Arriving;
@@ -40,7 +42,26 @@ fn operate_here<R: Wait + Input + Print + Eprint, S: Shelf, K: Keeper<S>, P: She
     operated
 }
 
+/// Attends to the connections of a source. Where that doesn't begin, those who wait for it are told.
+pub(crate) fn serve_from_start<R: Threads + Wait + Sync, F: Shelf + Drop + Send, C: Source + Sync>(
+    rt: &R,
+    alloc: Global,
+    workers: (Vec<Reader>, Vec<F>),
+    source: &C,
+    start: &Start,
+) -> Result<u64, Fault>
+    requires { (0 < vec_len workers.0) × (vec_len workers.0 ≡ vec_len workers.1) }
+{
+    let (readers, shelves) = workers;
+    let beginning = Beginning { rt, source, start };
+    let served = serve_all(rt, alloc, readers, shelves, &Open, &beginning);
+    start.give_up(rt);
+    served
+}
+
 /// Attends to the connections of a port by these readers, and meanwhile follows the operator.
+///
+/// WorkerFailed: a thread can't be had.
 fn attend<R, S: Shelf, K: Keeper<S>, P: Shelf, F: Shelf + Drop + Send>(
     rt: &R,
     alloc: Global,
@@ -53,13 +74,31 @@ where
     R: Threads + Wait + Clock + Input + Print + Eprint + Clone + Drop + Send + Sync,
     requires { (0 < vec_len workers.0) × (vec_len workers.0 ≡ vec_len workers.1) }
 {
-    let (readers, shelves) = workers;
-    let (served, operated) = thread::join(
+    let due = Start::due();
+    let start = &due;
+    let (served, operated) = thread::scope(
+        thread::scope_env(),
         rt,
-        || -> Result<u64, Fault>
-            requires { (0 < vec_len readers) × (vec_len readers ≡ vec_len shelves) }
-        { serve_all(rt, alloc, readers, shelves, &Open, source) },
-        || operate_here(rt, alloc, desk, writer),
+        move |scope| -> (Result<u64, Fault>, Result<(), Fault>)
+            requires { IsSync R.row × IsSend F.row × (0 < vec_len workers.0)
+                × (vec_len workers.0 ≡ vec_len workers.1) }
+        {
+            let serving = scope.spawn(
+                move || -> Result<u64, Fault>
+                    requires { IsSync R.row × IsSend F.row × (0 < vec_len workers.0)
+                        × (vec_len workers.0 ≡ vec_len workers.1) }
+                { serve_from_start(rt, alloc, workers, source, start) },
+            );
+            let Ok(serving) = serving else {
+                return (Err(Fault::WorkerFailed), Ok(()));
+            };
+            let operated = if start.wait(rt) {
+                operate_here(rt, alloc, desk, writer)
+            } else {
+                Ok(())
+            };
+            (serving.join(rt), operated)
+        },
     );
     source.end();
     let connections = served?;
@@ -99,16 +138,16 @@ where
 
 /// Serves the images of an archive on a port, with a worker for each of the shelves, until so many
 /// connections have come and standard input has ended. Lines of standard input are followed
-/// meanwhile (`operate`). A text is written to standard error when it begins.
+/// meanwhile (`operate`).
 ///
-/// BadParameters: other than 1 to 64 shelves. WorkerFailed: a worker can't have its place.
+/// BadParameters: other than 1 to 64 shelves. WorkerFailed: a worker can't have its place or its
+/// thread.
 pub fn serve_port<R, S: Shelf, K: Keeper<S>, P: Shelf, F: Shelf + Drop + Send>(
     rt: &R,
     alloc: Global,
     desk: &mut Desk<S, K, P>,
     shelves: Vec<F>,
     source: &Arriving<R>,
-    started: &str,
 ) -> Result<Served, Fault>
 where
     R: Threads + Wait + Clock + Input + Print + Eprint + Clone + Drop + Send + Sync + 'static,
@@ -118,7 +157,6 @@ where
         return Err(Fault::BadParameters);
     }
     let (mut writer, readers) = Hall::new(rt, alloc, shelves.len(), entries)?;
-    let _ = rt.eprint(started);
     let writing = start_log(rt, alloc, source);
     let served = attend(rt, alloc, desk, &mut writer, (readers, shelves), source);
     end_log(rt, source, writing);

@@ -1,6 +1,7 @@
 //! Serving an archive over sockets while its files are opened.
 
 ghost use Rattle.std.specs.Prelude.{◌≡◌, ◌<◌, vec_len};
+ghost use Rattle.std.specs.Thread.{IsSync, IsSend};
 
 use crate::desk::{Desk, Keeper};
 use crate::distant_desk::DistantDesk;
@@ -10,10 +11,9 @@ use crate::opener::{Opener, Opening};
 use crate::operating::follow_all;
 use crate::owner::Owner;
 use crate::post::{Post, Request};
-use crate::serving::{Served, end_log, start_log};
+use crate::serving::{Served, end_log, serve_from_start, start_log};
 use crate::table::{Table, entries};
-use jk_hall::{Hall, Reader, Source, serve_all};
-use jk_jobs::Open;
+use jk_hall::{Hall, Reader, Source, Start};
 use jk_math::Fault;
 use jk_port::Arriving;
 use jk_store::Shelf;
@@ -31,14 +31,6 @@ struct Operator<P, I, O> {
     paths: P,
     input: I,
     output: O,
-}
-
-/// How those have ended who don't have the archive: who attends to connections, with how many, and
-/// who follows the operator's lines.
-#[derive(Drop)]
-struct Others {
-    served: Result<u64, Fault>,
-    operated: Result<(), Fault>,
 }
 
 /// Has what waits published.
@@ -76,60 +68,49 @@ fn operate_there<R: Wait + Clock + Eprint, P: Shelf + Drop, I: Read + Drop, O: W
     followed
 }
 
-/// Attends to connections, and meanwhile follows the operator's lines, if who has the archive still
-/// waits for that.
-fn attend<
-    R: Threads + Wait + Clock + Eprint + Sync,
-    P: Shelf + Drop,
-    F: Shelf + Drop + Send,
-    C: Source + Sync,
-    I: Read + Drop,
-    O: Write + Drop,
->(
+/// Follows the operator's lines once connections are attended to.
+fn operate_from_start<R: Wait + Clock + Eprint, P: Shelf + Drop, I: Read + Drop, O: Write + Drop>(
     rt: &R,
     alloc: Global,
     post: &Post,
     operator: Operator<P, I, O>,
-    workers: (Vec<Reader>, Vec<F>),
-    source: &C,
-) -> Others
-    requires { (0 < vec_len workers.0) × (vec_len workers.0 ≡ vec_len workers.1) }
-{
-    if !post.begin(rt) {
-        return Others {
-            served: Err(Fault::WorkerFailed),
-            operated: Err(Fault::WorkerFailed),
-        };
+    start: &Start,
+) -> Result<(), Fault> {
+    if start.wait(rt) {
+        return operate_there(rt, alloc, post, operator);
     }
-    let (readers, shelves) = workers;
-    let noticing = Noticing { source, post };
-    let (served, operated) = thread::join(
-        rt,
-        || -> Result<u64, Fault>
-            requires { (0 < vec_len readers) × (vec_len readers ≡ vec_len shelves) }
-        {
-            let served = serve_all(rt, alloc, readers, shelves, &Open, &noticing);
-            post.end_serving(rt);
-            served
-        },
-        || operate_there(rt, alloc, post, operator),
-    );
-    Others { served, operated }
+    Ok(())
 }
 
-/// Opens the files that wait, and does what the operator asks, until the lines have ended. Where the
-/// opening is given up, it is told.
-///
-/// WorkerFailed: nobody else has begun.
+/// Attends to connections of which it is noticed what isn't found.
+fn serve_noticing<R: Threads + Wait + Sync, F: Shelf + Drop + Send, C: Source + Sync>(
+    rt: &R,
+    alloc: Global,
+    post: &Post,
+    workers: (Vec<Reader>, Vec<F>),
+    source: &C,
+    start: &Start,
+) -> Result<u64, Fault>
+    requires { (0 < vec_len workers.0) × (vec_len workers.0 ≡ vec_len workers.1) }
+{
+    let noticing = Noticing { source, post };
+    let served = serve_from_start(rt, alloc, workers, &noticing, start);
+    post.end_serving(rt);
+    served
+}
+
+/// Opens the files that wait, and does what the operator asks, until the lines have ended, once
+/// connections are attended to. Where the opening is given up, it is told.
 fn own<R: Wait + Clock + Eprint, S: Shelf, K: Keeper<S>, N: Finder + Drop>(
     rt: &R,
     alloc: Global,
     post: &Post,
     owner: &mut Owner<S, K>,
     opening: Opening<N>,
+    start: &Start,
 ) -> Result<(), Fault> {
-    if !post.meet(rt) {
-        return Err(Fault::WorkerFailed);
+    if !start.wait(rt) {
+        return Ok(());
     }
     let opened = match Opener::new(rt, alloc, opening) {
         Ok(mut opener) => opener.run(rt, owner, post),
@@ -152,6 +133,15 @@ pub struct Ends {
     pub opened: Result<(), Fault>,
     /// As of `operate`.
     pub operated: Result<(), Fault>,
+}
+
+/// The ends where a thread can't be had.
+fn not_begun() -> Ends {
+    Ends {
+        served: Err(Fault::WorkerFailed),
+        opened: Ok(()),
+        operated: Ok(()),
+    }
 }
 
 /// Has an archive, while in another thread connections are attended to, and in a third one the
@@ -177,20 +167,39 @@ fn meanwhile<
 ) -> Ends
     requires { (0 < vec_len workers.0) × (vec_len workers.0 ≡ vec_len workers.1) }
 {
-    let kept = Post::new(alloc);
-    let post = &kept;
-    let (others, opened) = thread::join(
+    let (kept, due) = (Post::new(alloc), Start::due());
+    let (post, start) = (&kept, &due);
+    thread::scope(
+        thread::scope_env(),
         rt,
-        || -> Others
-            requires { (0 < vec_len workers.0) × (vec_len workers.0 ≡ vec_len workers.1) }
-        { attend(rt, alloc, post, operator, workers, source) },
-        || own(rt, alloc, post, owner, opening),
-    );
-    Ends {
-        served: others.served,
-        opened,
-        operated: others.operated,
-    }
+        move |scope| -> Ends
+            requires { IsSync R.row × IsSync C.row × IsSend P.row × IsSend F.row × IsSend I.row × IsSend O.row
+                × (0 < vec_len workers.0) × (vec_len workers.0 ≡ vec_len workers.1) }
+        {
+            let operating = scope.spawn(move || operate_from_start(
+                rt, alloc, post, operator, start,
+            ));
+            let Ok(operating) = operating else {
+                return not_begun();
+            };
+            let serving = scope.spawn(
+                move || -> Result<u64, Fault>
+                    requires { IsSync R.row × IsSync C.row × IsSend F.row × (0 < vec_len workers.0)
+                        × (vec_len workers.0 ≡ vec_len workers.1) }
+                { serve_noticing(rt, alloc, post, workers, source, start) },
+            );
+            let Ok(serving) = serving else {
+                start.give_up(rt);
+                return not_begun();
+            };
+            let opened = own(rt, alloc, post, owner, opening, start);
+            Ends {
+                served: serving.join(rt),
+                opened,
+                operated: operating.join(rt),
+            }
+        },
+    )
 }
 
 /// Serves an archive to the connections of a source, with a worker for each of the shelves, while
@@ -198,8 +207,8 @@ fn meanwhile<
 /// are followed, as by `operate`. It ends when no more connections come and the lines have ended;
 /// then no more files are opened.
 ///
-/// BadParameters: other than 1 to 64 shelves. WorkerFailed: a worker can't have its place. At the
-/// ends it is WorkerFailed where no thread can be had for the connections and the lines.
+/// BadParameters: other than 1 to 64 shelves. WorkerFailed: a worker can't have its place. At the end
+/// of serving it is WorkerFailed where a thread can't be had: then nothing has begun.
 pub fn serve_meanwhile<
     R: Threads + Wait + Clock + Eprint + Sync,
     S: Shelf + Drop,

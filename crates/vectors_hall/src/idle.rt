@@ -81,7 +81,7 @@ where
     let port = bind(rt, 0).expect(rt, "a port");
     let number = port.number;
     let again = rt.clone().expect(rt, "a runtime");
-    let arriving = Arriving::new(again, alloc, port, 2, WAIT, None);
+    let arriving = Arriving::new(again, alloc, port, 2, WAIT, None, String::new(alloc));
     thread::join(
         rt,
         || -> Result<u64, Fault>

@@ -227,39 +227,22 @@ static BAD: &str =
 #[test]
 fn several_files_are_listed(rt: HostRuntime) {
     let alloc = rt.alloc();
-    let mut world = world_of_files(&rt, alloc);
-    let line = "info a.j2k b.jp2";
-    check_run(
-        &rt,
-        alloc,
-        &mut world,
-        line,
-        Status::Done,
-        LINES.as_bytes(),
-        "",
-    );
-    let mut world = world_of_files(&rt, alloc);
-    let line = "info a.j2k bad b.jp2";
-    check_run(
-        &rt,
-        alloc,
-        &mut world,
-        line,
-        Status::Refused,
-        LINES.as_bytes(),
-        BAD,
-    );
-    let mut world = world_of_files(&rt, alloc);
-    let line = "info a.j2k bad b.jp2 --json";
-    check_run(
-        &rt,
-        alloc,
-        &mut world,
-        line,
-        Status::Refused,
-        OBJECTS.as_bytes(),
-        BAD,
-    );
+    for (line, status, output, said) in [
+        ("info a.j2k b.jp2", Status::Done, LINES, ""),
+        ("info a.j2k bad b.jp2", Status::Refused, LINES, BAD),
+        ("info a.j2k bad b.jp2 --json", Status::Refused, OBJECTS, BAD),
+    ] {
+        let mut world = world_of_files(&rt, alloc);
+        check_run(
+            &rt,
+            alloc,
+            &mut world,
+            line,
+            status,
+            output.as_bytes(),
+            said,
+        );
+    }
 }
 
 /// Options in two forms, which give the same file.
