@@ -1,6 +1,6 @@
 """Headless Chromium and Firefox for tools/try-viewer, each as its Debian package gives it, with no driver.
 
-A browser has `open`, `value` of an expression in the page, `screenshot`, `wheel`, `key`, `drag` and `close`; `errors`
+A browser has `open`, `value` of an expression in the page, `screenshot`, `point`, `wheel`, `key`, `drag` and `close`; `errors`
 has what the page threw and what the browser logged as an error, where the browser tells it."""
 import base64
 import json
@@ -20,7 +20,8 @@ class Chromium:
 
     name = "Chromium"
     # The numbers of keys, as pages are told them.
-    KEYS = {"ArrowRight": 39, "ArrowDown": 40, "+": 187, "-": 189}
+    KEYS = {"ArrowRight": 39, "ArrowDown": 40, "+": 187, "-": 189, "Home": 36, "PageDown": 34, "PageUp": 33, "n": 78, "p": 80,
+            "1": 49}
 
     def __init__(self, width, height):
         self.profile = tempfile.mkdtemp()
@@ -84,8 +85,11 @@ class Chromium:
         with open(path, "wb") as file:
             file.write(base64.b64decode(self.call("Page.captureScreenshot", format="png")["data"]))
 
-    def wheel(self, x, y, delta):
+    def point(self, x, y):
         self.call("Input.dispatchMouseEvent", type="mouseMoved", x=x, y=y)
+
+    def wheel(self, x, y, delta):
+        self.point(x, y)
         self.call("Input.dispatchMouseEvent", type="mouseWheel", x=x, y=y, deltaX=0, deltaY=delta)
 
     def key(self, name):
@@ -116,7 +120,8 @@ class Firefox:
     """Firefox, driven by Marionette: messages of JSON on a socket, each with its length in front."""
 
     name = "Firefox"
-    KEYS = {"ArrowRight": "\ue014", "ArrowDown": "\ue015", "+": "+", "-": "-"}
+    KEYS = {"ArrowRight": "\ue014", "ArrowDown": "\ue015", "Home": "\ue011", "PageDown": "\ue00f", "PageUp": "\ue00e",
+            **{key: key for key in "+-np1"}}
 
     def __init__(self, width, height):
         self.profile = tempfile.mkdtemp()
@@ -183,6 +188,10 @@ class Firefox:
     def act(self, *sources):
         self.call("WebDriver:PerformActions", actions=[{"id": f"source {at}", **it} for at, it in enumerate(sources)])
         self.call("WebDriver:ReleaseActions")
+
+    def point(self, x, y):
+        move = {"type": "pointerMove", "x": x, "y": y, "duration": 0, "origin": "viewport"}
+        self.act({"type": "pointer", "parameters": {"pointerType": "mouse"}, "actions": [move]})
 
     def wheel(self, x, y, delta):
         scroll = {"type": "scroll", "x": x, "y": y, "deltaX": 0, "deltaY": delta, "origin": "viewport", "duration": 0}

@@ -36,13 +36,18 @@ export class Fault extends Error {
 
 // The bytes of a reply of the server, or why there are none.
 export async function bytesAt(url) {
+  return new Uint8Array(await (await replyAt(url)).arrayBuffer());
+}
+
+// A reply of the server, or why there is none.
+export async function replyAt(url) {
   let reply;
   try {
     reply = await fetch(url);
   } catch {
     throw new Error("the server can't be reached");
   }
-  if (reply.ok) return new Uint8Array(await reply.arrayBuffer());
+  if (reply.ok) return reply;
   if (reply.status in REPLIES) throw new Fault(REPLIES[reply.status]);
   if (reply.status === 500) throw new Error("the server can't read the file, or it has changed since the server began");
   throw new Error(`the server answers ${reply.status} ${reply.statusText}`);

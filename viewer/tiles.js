@@ -1,11 +1,13 @@
 // An image as tiles on a map of Leaflet: each tile is a window of the stored image, at the reduction of its zoom.
-// Zoom 0 shows the image itself, -1 its first reduction and so on; places on the map are columns and rows of the image
-// itself.
+// Zoom 0 shows the image itself, -1 its first reduction and so on; between them the nearer one is scaled. Places on the map
+// are columns and rows of the image itself.
 
 import { GridLayer } from './leaflet/leaflet.esm.min.js';
 import { pixelsOf, shades, wholeRange } from './pixels.js';
 
 export const TILE = 256;
+// No image is shown smaller: at this zoom the largest has less than a pixel.
+export const LEAST_ZOOM = -15;
 const BAD_WINDOW = 16;
 
 // A job for the pool: a window of an image behind `jk serve`.
@@ -26,7 +28,7 @@ export const Tiles = GridLayer.extend({
     GridLayer.prototype.initialize.call(this, {
       tileSize: TILE,
       bounds: [[0, 0], [image.height, image.width]],
-      minZoom: -image.levels,
+      minZoom: LEAST_ZOOM,
       minNativeZoom: -image.levels,
       maxNativeZoom: 0,
       noWrap: true,
@@ -49,6 +51,17 @@ export const Tiles = GridLayer.extend({
     for (const { canvas, made } of this._shown.values()) this._draw(canvas, made);
   },
 
+  // The samples at a place of the image and the reduction of which they are, where the tile is shown.
+  samplesAt(x, y) {
+    const reduce = Math.max(0, -this._tileZoom), column = x >> reduce, row = y >> reduce;
+    const found = this._shown.get(`${Math.floor(column / TILE)}:${Math.floor(row / TILE)}:${-reduce}`);
+    if (!found) return null;
+    const { samples, width, height, components } = found.made, across = column % TILE, down = row % TILE;
+    if (across >= width || down >= height) return null;
+    const at = (down * width + across) * components;
+    return { values: [...samples.subarray(at, at + components)], reduce };
+  },
+
   isPending() {
     return this._asked.size > 0;
   },
@@ -59,12 +72,12 @@ export const Tiles = GridLayer.extend({
     canvas.height = TILE;
     const view = { x: at.x * TILE, y: at.y * TILE, width: TILE, height: TILE, reduce: -at.z };
     const key = this._tileCoordsToKey(at), range = this._range;
-    const asked = this._pool.ask({ ...windowJob(this._image, view), range }, { isUrgent: true });
+    const asked = this._pool.ask({ ...windowJob(this._image, view), range, isKept: true }, { isUrgent: true });
     this._wait(key, asked);
     asked.made.then((made) => {
       // The range may have been changed meanwhile.
       this._draw(canvas, made, range === this._range ? made.pixels : null);
-      if (made.samples) this._shown.set(key, { canvas, made });
+      this._shown.set(key, { canvas, made });
       Object.assign(canvas.dataset, { x: view.x, y: view.y, reduce: view.reduce, width: made.width, height: made.height,
         bytes: made.bytes, decoding: made.decoding, memory: made.memory });
       done(null, canvas);

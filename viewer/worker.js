@@ -31,7 +31,7 @@ function renew() {
   calls = module.then(library);
 }
 
-async function windowOf({ url, reduce, x, y, width, height, range }) {
+async function windowOf({ url, reduce, x, y, width, height, range, isKept }) {
   const file = await bytesAt(url);
   const jk = await calls;
   const began = performance.now();
@@ -39,9 +39,8 @@ async function windowOf({ url, reduce, x, y, width, height, range }) {
   const decoding = performance.now() - began;
   const pixels = pixelsOf(made.samples, made.components, shades(made.depth, range ?? wholeRange(made.depth)));
   const { samples, ...told } = made;
-  // Of more than 8 bits the samples go along, to be shown in another range.
-  const kept = made.depth > 8 ? samples : null;
-  return { ...told, pixels, samples: kept, bytes: file.length, decoding, memory: jk.memory() };
+  // The samples of a tile go along, to be told under the pointer, and shown in another range.
+  return { ...told, pixels, samples: isKept ? samples : null, bytes: file.length, decoding, memory: jk.memory() };
 }
 
 onmessage = async ({ data }) => {

@@ -55,7 +55,8 @@ def mypy(tmp_path_factory):
     cache = tmp_path_factory.mktemp("mypy")
 
     # Libraries whose own sources have types take a minute to read.
-    others = "".join(f"[mypy-{it}.*]\nfollow_imports = skip\n" for it in ("distributed", "dask", "pydicom", "tifffile", "PIL"))
+    others = "".join(f"[mypy-{it}.*]\nfollow_imports = skip\nignore_missing_imports = True\n"
+                     for it in ("distributed", "dask", "pydicom", "tifffile", "PIL"))
     # Of a package that is installed the sources are looked at too.
     sources = tmp_path_factory.mktemp("sources")
     (sources / "jk").symlink_to(os.path.dirname(jk.__file__))

@@ -10,6 +10,7 @@ import sys
 import time
 
 import pytest
+from jk import view
 
 # It lists the files of its folder, replies to what is asked of them with the words of the request, and ends where it
 # is asked for /images/end. In a folder with a file `slow` it is long in starting, with `latin` it tells of a name that
@@ -154,6 +155,43 @@ def test_the_page_is_served(site):
     ended(site, shown)
 
 
+def test_the_parts_of_the_page_fit():
+    """Modules that a script imports are there, and so are the elements that it asks for; each module is loaded ahead."""
+    page = view.first_of(view.PAGES, "")
+    texts = {name: open(os.path.join(page, name), encoding="utf-8").read() for name in os.listdir(page)
+             if name.endswith((".js", ".html", ".css"))}
+    there = set(re.findall(r'\bid="(\w+)"', texts["index.html"]))
+    named = ("element\\('(\\w+)'\\)", "getElementById\\('(\\w+)'\\)")
+    asked = {found for name in texts if name.endswith(".js") for pattern in named for found in re.findall(pattern, texts[name])}
+    parts = re.search(r"^const BUTTONS = {(.*?)};", texts["viewer.js"], re.MULTILINE | re.DOTALL)[1].split(",")
+    buttons = {part.split(":")[0].strip() for part in parts} - {""}
+    assert {"map", "list", "filter", "pixel"} <= asked <= there and {"fit", "samples", "screen"} <= buttons <= there
+    imported = {found for name, text in texts.items() if name.endswith(".js")
+                for found in re.findall(r"^import .* from '\./([\w./]+)';$", text, re.MULTILINE) if "leaflet" not in found}
+    loaded = set(re.findall(r'(?:href|src)="([\w.]+\.js)"', texts["index.html"]))
+    assert imported <= set(texts) and imported - loaded <= {"jk.js", "sample.js"} and loaded <= set(texts)
+
+
+def test_files_that_arent_listed_are_named(site):
+    """The page gets their names and the reasons; a file that is shown through a link has its own name."""
+    program = (site / "jk").read_text().replace("jk: odd.jp2 isn't", "jk: one-page.jp2 isn't")
+    (site / "jk").write_text(program)
+    shown = Shown(site, site / "One Page.jp2", site / "one_page.jp2")
+    try:
+        assert shown.get("/refused") == (200, "text/plain; charset=utf-8", b"One Page.jp2\tF2 Truncated\n")
+        asked = http.client.HTTPConnection("127.0.0.1", shown.port, timeout=10)
+        for path, count in (("/images", "1"), ("/images/one-page", None), ("/", None)):
+            asked.request("GET", path)
+            got = asked.getresponse()
+            got.read()
+            assert got.getheader("X-Refused") == count
+        asked.close()
+        assert shown.get("/refused", "example.org")[0] == 403
+    finally:
+        shown.end()
+    ended(site, shown)
+
+
 def test_files_of_which_none_is_an_image_are_told(site):
     for name in ("bad-1.jp2", "bad-2.jp2"):
         (site / name).write_bytes(b"")
@@ -164,6 +202,23 @@ def test_files_of_which_none_is_an_image_are_told(site):
     shown = Shown(site, site / "bad-1.jp2", site / "One Page.jp2")
     assert shown.end()[0] == 0
     ended(site, shown)
+
+
+def test_more_connections_than_threads_of_the_server(site):
+    """A browser has six: each is answered, though a thread of jk serve has one connection until that is closed."""
+    program = (site / "jk").read_text().replace("http.server.ThreadingHTTPServer", "http.server.HTTPServer")
+    (site / "jk").write_text(program)
+    shown = Shown(site, site, "--workers", "1")
+    asked = [http.client.HTTPConnection("127.0.0.1", shown.port, timeout=10) for _ in range(6)]
+    try:
+        for _ in range(3):
+            for one in asked:
+                one.request("GET", "/images/here")
+                assert one.getresponse().read() == b"/images/here"
+    finally:
+        for one in asked:
+            one.close()
+        shown.end()
 
 
 def test_other_hosts_are_refused(site):

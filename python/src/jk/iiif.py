@@ -1,265 +1,182 @@
-"""The IIIF Image API 3 for an archive behind `jk serve`, as a WSGI application.
+"""The IIIF Image API 3 for an archive of `jk serve`, as a WSGI application.
 
-It answers level 1 of the API, and beyond it regions by percent, sizes by percent and confined sizes, upscaling by `^`,
-gray, and png. Of each request it fetches one window at the reduction that is next above the asked size, decodes that
-alone, and scales the last step and writes by Pillow (Debian's python3-pil).
+It has level 2 of the API, and in addition mirroring, upscaling by `^`, bitonal, and webp. For each request it fetches the
+file of one region at the next larger reduction, decodes that alone or with its neighbours, which are kept, and scales,
+turns and writes it by Pillow (Debian's python3-pil).
 
     waitress-serve --listen 127.0.0.1:8182 --call jk.iiif:from_environment       # JK_ARCHIVE=http://127.0.0.1:8080
-    gunicorn 'jk.iiif:Application("http://127.0.0.1:8080")'
+    gunicorn --threads 4 'jk.iiif:Application("http://127.0.0.1:8080")'
 
-Samples of other depths than 8 bits are scaled to 8 bits. An image stands at (0, 0) of the reference grid, as `jk add`
+JK_IIIF_CACHE is how many megabytes of decoded samples and of answers a process keeps (64), and JK_IIIF_MAX_AGE for how many
+seconds a browser or proxy may keep an answer (600).
+
+Samples of other depths than 8 bits are scaled to 8 bits. An image must be at (0, 0) of the reference grid, where `jk add`
 puts it.
 """
 from __future__ import annotations
 
-import io
+import itertools
 import json
 import os
-import re
-from dataclasses import dataclass
-from fractions import Fraction
-from typing import Any, Callable, Dict, Iterable, List, Tuple
+import random
+from dataclasses import dataclass, replace
+from functools import partial
+from hashlib import blake2b
+from typing import Any, Callable, Dict, Iterable, Iterator, List, Optional, Tuple
 from urllib.parse import quote, unquote
 
-import numpy as np
-
-from ._needs import raise_told
+from ._iiif_picture import FORMATS, WRITER, eight_bits, halved, reduction, written
+from ._iiif_request import Asked, Refused, asked_of, size_of
+from ._pieces import Box, Named, Pieces
 from ._types import Array
 from .archive import Archive, Listed
 from .faults import BadWindow, Fault, NoSuchImage
-
-try:
-    from PIL import Image
-except ImportError as error:
-    raise_told(__name__, error)
+from .files import info, read
 
 CONTEXT = "http://iiif.io/api/image/3/context.json"
-PROFILE = "http://iiif.io/api/image/3/level1.json"
-FORMATS = {"jpg": ("JPEG", "image/jpeg"), "png": ("PNG", "image/png")}
-#: Formats and qualities that the API names and this server doesn't have.
-OTHER_FORMATS = ("tif", "gif", "jp2", "pdf", "webp")
-FEATURES = [
-    "canonicalLinkHeader", "profileLinkHeader", "regionByPct", "sizeByConfinedWh", "sizeByPct", "sizeUpscaling",
-]
+LEVEL = "level2"
+PROFILE = f"http://iiif.io/api/image/3/{LEVEL}.json"
+#: What is served in addition to level 2.
+FEATURES = ["canonicalLinkHeader", "mirroring", "profileLinkHeader", "sizeUpscaling"]
+METHODS = "GET, HEAD, OPTIONS"
+LINKED = "application/ld+json"
+#: How many bytes of samples and answers are kept, and the side of the pieces that are decoded, unless a tile is larger.
+CACHE, PIECE = 64_000_000, 1024
+#: Formats whose files are much smaller than the samples: the neighbours of a tile are written with it.
+SMALL_FORMATS = ("jpg", "webp")
+#: For how many seconds others may keep an answer.
+MAX_AGE = 600
+#: The side of the part of the lowest resolution that tells an image from another.
+STAMP_SIDE = 512
+#: How often a request is begun again where the image changes meanwhile.
+TRIES = 3
 
-
-class Refused(Exception):
-    """A request that is answered with another status than 200."""
-
-    def __init__(self, status: str, why: str) -> None:
-        super().__init__(why)
-        self.status = status
-
-
-def bad(why: str) -> Refused:
-    return Refused("400 Bad Request", why)
-
-
-def missing(why: str) -> Refused:
-    return Refused("501 Not Implemented", why)
+Headers = List[Tuple[str, str]]
+Reply = Tuple[str, Headers, bytes]
 
 
 @dataclass(frozen=True)
-class Asked:
-    """A request for an image: what of it, how large, and how written."""
+class Seen:
+    """An image as the server has it at a moment, and a digest that another image under its name doesn't have."""
 
     image: Listed
-    #: x, y, width and height, in pixels of the whole image.
-    region: Tuple[int, int, int, int]
-    size: Tuple[int, int]
-    upscaled: bool
-    quality: str
-    format: str
-
-    def canonical(self) -> str:
-        """The parameters as the API writes them in a canonical address."""
-        x, y, width, height = self.region
-        whole = self.region == (0, 0, self.image.width, self.image.height)
-        region = "full" if whole else f"{x},{y},{width},{height}"
-        most = self.size == (width, height)
-        size = "max" if most else f"{'^' * self.upscaled}{self.size[0]},{self.size[1]}"
-        quality = "default" if self.quality == "color" or self.image.components == 1 else self.quality
-        return f"{region}/{size}/0/{quality}.{self.format}"
+    stamp: bytes
 
 
-def _decimal(text: str) -> Fraction:
-    if not re.fullmatch(r"\d+(\.\d*)?|\.\d+", text):
-        raise bad(f"{text!r} isn't a number")
-    return Fraction(text)
+class Changed(Exception):
+    """The name of an image means another one by now."""
 
 
-def _number(text: str) -> int:
-    if not re.fullmatch(r"\d{1,10}", text):
-        raise bad(f"{text!r} isn't a number")
-    return int(text)
+@dataclass(frozen=True)
+class Reduced:
+    """An image at a reduction, out of which regions are decoded."""
 
+    application: "Application"
+    seen: Seen
+    reduce: int
 
-def _half_up(number: Fraction) -> int:
-    return int(number + Fraction(1, 2))
+    @property
+    def image(self) -> Named:
+        return self.seen.image.name, self.seen.stamp
 
+    @property
+    def size(self) -> Tuple[int, int]:
+        image, step = self.seen.image, 1 << self.reduce
+        return -(-image.width // step), -(-image.height // step)
 
-def region_of(text: str, image: Listed) -> Tuple[int, int, int, int]:
-    """The rectangle that a region names, cut with the image."""
-    if text == "full":
-        return 0, 0, image.width, image.height
-    if text == "square":
-        side = min(image.width, image.height)
-        return (image.width - side) // 2, (image.height - side) // 2, side, side
-    if text.startswith("pct:"):
-        parts = [_decimal(part) for part in text[4:].split(",")]
-        if len(parts) != 4:
-            raise bad("a region has four numbers")
-        sides = (image.width, image.height) * 2
-        x, y, width, height = (_half_up(part * side / 100) for part, side in zip(parts, sides))
-    else:
-        numbers = [_number(part) for part in text.split(",")]
-        if len(numbers) != 4:
-            raise bad("a region has four numbers")
-        x, y, width, height = numbers
-    width, height = min(x + width, image.width) - x, min(y + height, image.height) - y
-    if width <= 0 or height <= 0:
-        raise bad("the region has no pixel")
-    return x, y, width, height
+    def file(self, box: Box) -> bytes:
+        """The file of a region, of this image and no other one. Changed: the name means another one."""
+        name, (left, upper, right, lower) = self.seen.image.name, box
+        fault: Optional[Fault] = None
+        try:
+            file = self.application.archive.cut(name, left, upper, right - left, lower - upper, self.reduce)
+        except Fault as error:
+            fault = error
+        if self.application.look(name) != self.seen:
+            raise Changed(name)
+        if fault is not None:
+            self.application.forget(name)
+            raise fault
+        return file
 
-
-def size_of(text: str, width: int, height: int, most: int) -> Tuple[Tuple[int, int], bool]:
-    """How large a region of this size becomes, and whether the request allows that it grows."""
-    grows = text.startswith("^")
-    text = text[grows:]
-    if text == "max":
-        factor = min(Fraction(1), Fraction(most, max(width, height)))
-        if grows:
-            factor = Fraction(most, max(width, height))
-        size = max(1, int(width * factor)), max(1, int(height * factor))
-    elif text.startswith("pct:"):
-        factor = _decimal(text[4:]) / 100
-        size = _half_up(width * factor), _half_up(height * factor)
-    elif text.startswith("!"):
-        wide, high = _pair(text[1:])
-        factor = min(Fraction(wide, width), Fraction(high, height), Fraction(most, max(width, height)))
-        if not grows:
-            factor = min(factor, Fraction(1))
-        size = max(1, _half_up(width * factor)) if wide else 0, max(1, _half_up(height * factor)) if high else 0
-    else:
-        wide, high = _pair(text, alone=True)
-        size = (
-            wide if wide is not None else max(1, _half_up(Fraction(width * high, height))),
-            high if high is not None else max(1, _half_up(Fraction(height * wide, width))),
-        )
-    if size[0] < 1 or size[1] < 1:
-        raise bad("the size has no pixel")
-    if not grows and (size[0] > width or size[1] > height):
-        raise bad("the size is larger than the region, and doesn't begin with ^")
-    if max(size) > most:
-        raise bad(f"the size is larger than {most}")
-    return size, size[0] > width or size[1] > height
-
-
-def _pair(text: str, alone: bool = False) -> Tuple[Any, Any]:
-    """Two numbers; of them one may be left out where it may stand alone."""
-    parts = text.split(",")
-    if len(parts) != 2 or not (all(parts) or alone and any(parts)):
-        raise bad(f"{text!r} isn't a size")
-    return tuple(_number(part) if part else None for part in parts)
-
-
-def halved(asked: Asked, reduce: int) -> Tuple[int, int, int, int]:
-    """The samples of the reduced image that the region touches: left, upper, right and lower edge."""
-    x, y, width, height = asked.region
-    step = 1 << reduce
-    return x // step, y // step, -(-(x + width) // step), -(-(y + height) // step)
-
-
-def reduction(asked: Asked) -> int:
-    """How often the region may be halved and still is as large as it is asked for."""
-    reduce = 0
-    while reduce < asked.image.levels:
-        left, upper, right, lower = halved(asked, reduce + 1)
-        if right - left < asked.size[0] or lower - upper < asked.size[1]:
-            break
-        reduce += 1
-    return reduce
-
-
-def _eight_bits(samples: Array, depth: int) -> Array:
-    if depth == 8:
-        return samples
-    return (samples.astype(np.uint32) * 255 // ((1 << depth) - 1)).astype(np.uint8)
-
-
-def _edges(start: int, length: int, whole: int, step: int) -> Tuple[float, float]:
-    """Where a stretch begins and ends among the samples that it touches. The last sample of an image is whole."""
-    first = start // step
-    end = start + length
-    last = -(-end // step) if end == whole else end / step
-    return start / step - first, last - first
-
-
-def picture(archive: Archive, asked: Asked) -> Image.Image:
-    """What is asked for, scaled."""
-    x, y, width, height = asked.region
-    reduce = reduction(asked)
-    left, upper, right, lower = halved(asked, reduce)
-    samples = archive.window(asked.image.name, left, upper, right - left, lower - upper, reduce)
-    drawn = Image.fromarray(_eight_bits(samples, asked.image.depth))
-    if asked.quality == "gray":
-        drawn = drawn.convert("L")
-    across = _edges(x, width, asked.image.width, 1 << reduce)
-    down = _edges(y, height, asked.image.height, 1 << reduce)
-    box = (across[0], down[0], across[1], down[1])
-    if asked.size != drawn.size or box != (0, 0, *drawn.size):
-        drawn = drawn.resize(asked.size, Image.LANCZOS, box=box)
-    return drawn
+    def decoded(self, file: bytes, box: Box) -> Array:
+        """The samples of a region out of its file, as bytes."""
+        left, upper, right, lower = box
+        samples = read(file, reduce=self.reduce, window=(left, upper, right - left, lower - upper))
+        return eight_bits(samples, self.seen.image.depth)
 
 
 class Application:
-    """A WSGI application that answers for the archive at an address; `prefix` is the path that its images stand under,
-    `most` the most pixels of a side, and `tile` the side of a tile that `info.json` proposes."""
+    """A WSGI application that answers for the archive at an address. `prefix` is the path that its images are under, `most`
+    the most pixels of a side, `tile` the side of a tile that `info.json` proposes, `cache` the most bytes of decoded samples
+    and of answers that are kept, and `max_age` for how many seconds others may keep an answer."""
 
-    def __init__(self, url: str, prefix: str = "", most: int = 8192, tile: int = 512) -> None:
+    def __init__(self, url: str, prefix: str = "", most: int = 8192, tile: int = 512, cache: int = CACHE,
+                 max_age: int = MAX_AGE) -> None:
         self.archive = Archive(url)
-        self.prefix, self.most, self.tile = prefix, most, tile
-        self.known: Dict[str, Listed] = {}
+        self.prefix, self.most, self.tile, self.max_age = prefix, most, tile, max_age
+        self.pieces = Pieces(cache, tile * max(1, PIECE // tile))
+        self.known: Dict[str, Seen] = {}
+        # jk serve keeps the windows that it was asked for last, by their numbers: another number of layers, past those that
+        # an image has, is answered from the file anew.
+        self.layers = itertools.count(random.randrange(1 << 20, 1 << 30))
 
-    def listed(self, name: str) -> Listed:
-        """The image of a name. What a name means doesn't change while the server runs, so it is asked for once."""
-        if name not in self.known:
-            self.known = {image.name: image for image in self.archive.images()}
-        if name not in self.known:
-            raise Refused("404 Not Found", f"{name!r} isn't listed")
-        return self.known[name]
+    def look(self, name: str) -> Seen:
+        """The image of a name as the server has it now. What was kept of another one under this name is dropped."""
+        known = self.known.get(name)
+        for _ in range(TRIES):
+            listed = known.image if known else self._listed(name)
+            now = None
+            try:
+                now = self._stamped(listed)
+            except (BadWindow, NoSuchImage):
+                # Another image has the name, or none.
+                pass
+            except BaseException:
+                self.forget(name)
+                raise
+            if known is not None and now == known:
+                return known
+            self.forget(name)
+            if now is not None and now.image.levels == listed.levels:
+                self.known[name] = now
+                return now
+            known = None
+        raise Refused("503 Service Unavailable", f"the image {name!r} changes")
 
-    def asked(self, image: Listed, words: List[str]) -> Asked:
-        """What a path asks for, judged from left to right."""
-        region = region_of(words[0], image)
-        size, upscaled = size_of(words[1], region[2], region[3], self.most)
-        turned = words[2][1:] if words[2].startswith("!") else words[2]
-        if not 0 <= _decimal(turned) <= 360:
-            raise bad("a rotation is from 0 to 360")
-        if _decimal(turned) % 360 or words[2].startswith("!"):
-            raise missing("rotation and mirroring")
-        quality, dot, form = words[3].rpartition(".")
-        if not dot or quality not in ("default", "color", "gray", "bitonal"):
-            raise bad(f"{words[3]!r} isn't a quality and a format")
-        if quality == "bitonal" or quality == "color" and image.components == 1:
-            raise missing(f"the quality {quality}")
-        if form in OTHER_FORMATS:
-            raise missing(f"the format {form}")
-        if form not in FORMATS:
-            raise bad(f"{form!r} isn't a format")
-        return Asked(image, region, size, upscaled, quality, form)
+    def forget(self, name: str) -> None:
+        """Drops what is known and kept of the images of a name."""
+        self.known.pop(name, None)
+        self.pieces.forget(name)
+
+    def _listed(self, name: str) -> Listed:
+        for image in self.archive.images():
+            if image.name == name:
+                return image
+        self.forget(name)
+        raise Refused("404 Not Found", f"{name!r} isn't listed")
+
+    def _stamped(self, listed: Listed) -> Seen:
+        """What the server has under the name, by the middle of its lowest resolution, which it reads from the file."""
+        step, side = 1 << listed.levels, STAMP_SIDE
+        x, y = (max(0, (-(-length // step) - side) // 2) for length in (listed.width, listed.height))
+        place = f"x={x}&y={y}&w={side}&h={side}&r={listed.levels}&layers={next(self.layers)}"
+        file = self.archive.get(f"/images/{listed.name}/window?{place}")
+        told = info(file)
+        image = Listed(listed.name, told.width, told.height, told.components, told.depth, told.levels)
+        return Seen(image, blake2b(file, digest_size=32).digest())
 
     def info(self, base: str, image: Listed) -> Dict[str, Any]:
         """What `info.json` has."""
         reduced = range(image.levels + 1)
         sizes = [(-(-image.width // 2 ** r), -(-image.height // 2 ** r)) for r in reduced]
-        qualities = ["gray"] if image.components == 1 else ["color", "gray"]
+        qualities = ["gray", "bitonal"] if image.components < 3 else ["color", "gray", "bitonal"]
         return {
             "@context": CONTEXT,
             "id": base,
             "type": "ImageService3",
             "protocol": "http://iiif.io/api/image",
-            "profile": "level1",
+            "profile": LEVEL,
             "width": image.width,
             "height": image.height,
             "maxWidth": self.most,
@@ -267,59 +184,152 @@ class Application:
             "sizes": [{"width": w, "height": h} for w, h in reversed(sizes) if max(w, h) <= self.most],
             "tiles": [{"width": self.tile, "height": self.tile, "scaleFactors": [2 ** r for r in reduced]}],
             "preferredFormats": ["png", "jpg"],
-            "extraFormats": ["png"],
+            "extraFormats": [form for form in FORMATS if form not in ("jpg", "png")],
             "extraQualities": qualities,
             "extraFeatures": FEATURES,
         }
 
-    def reply(self, environ: Dict[str, Any]) -> Tuple[str, List[Tuple[str, str]], bytes]:
+    def reply(self, environ: Dict[str, Any]) -> Reply:
         """Status, headers and body for a request."""
         method = environ["REQUEST_METHOD"]
         if method == "OPTIONS":
-            allowed = [("Access-Control-Allow-Methods", "GET, HEAD, OPTIONS"), ("Access-Control-Allow-Headers", "*")]
+            allowed = [("Allow", METHODS), ("Access-Control-Allow-Methods", METHODS), ("Access-Control-Allow-Headers", "*")]
             return "204 No Content", allowed, b""
         if method not in ("GET", "HEAD"):
-            raise Refused("405 Method Not Allowed", method)
+            raise Refused("405 Method Not Allowed", f"the methods are {METHODS}")
         path = environ.get("PATH_INFO", "")
         if not path.startswith(self.prefix + "/"):
-            raise Refused("404 Not Found", path)
+            raise Refused("404 Not Found", "no image is under this path")
         # A server has undone one percent encoding; names of an archive have no character that needs one.
         name, *words = [unquote(word) for word in path[len(self.prefix) + 1:].split("/")]
+        for _ in range(TRIES):
+            try:
+                return self._reply(environ, self.look(name), words)
+            except Changed:
+                pass
+        raise Refused("503 Service Unavailable", f"the image {name!r} changes")
+
+    def _reply(self, environ: Dict[str, Any], seen: Seen, words: List[str]) -> Reply:
         host = environ.get("HTTP_HOST") or f"{environ['SERVER_NAME']}:{environ['SERVER_PORT']}"
         scheme = environ.get("HTTP_X_FORWARDED_PROTO", environ["wsgi.url_scheme"])
-        image = self.listed(name)
-        base = f"{scheme}://{host}{quote(environ.get('SCRIPT_NAME', ''))}{self.prefix}/{quote(name)}"
+        base = f"{scheme}://{host}{quote(environ.get('SCRIPT_NAME', ''))}{self.prefix}/{quote(seen.image.name)}"
         if not words or words == [""]:
             return "303 See Other", [("Location", f"{base}/info.json")], b""
         if words == ["info.json"]:
-            kind = "application/json"
-            if "application/ld+json" in environ.get("HTTP_ACCEPT", ""):
-                kind = f'application/ld+json;profile="{CONTEXT}"'
-            headers = [("Content-Type", kind), ("Link", f'<{PROFILE}>;rel="profile"'), ("Vary", "Accept")]
-            return "200 OK", headers, json.dumps(self.info(base, image), indent=1).encode()
-        if len(words) != 4:
-            raise bad("an image has a region, a size, a rotation, and a quality with a format")
-        asked = self.asked(image, words)
-        out = io.BytesIO()
-        picture(self.archive, asked).save(out, FORMATS[asked.format][0])
-        links = f'<{base}/{asked.canonical()}>;rel="canonical", <{PROFILE}>;rel="profile"'
-        return "200 OK", [("Content-Type", FORMATS[asked.format][1]), ("Link", links)], out.getvalue()
+            return self._info_reply(environ, base, seen.image)
+        asked = asked_of(seen.image, words, self.most, list(FORMATS))
+        links = f'<{base}/{asked.canonical}>;rel="canonical", <{PROFILE}>;rel="profile"'
+        tag = self._tag(seen, asked)
+        headers = [("Content-Type", FORMATS[asked.format][1]), ("Link", links), *self._kept_for(tag)]
+        if has_tag(environ, tag):
+            return "304 Not Modified", headers[1:], b""
+        return "200 OK", headers, self._picture(seen, asked)
+
+    def _tag(self, seen: Seen, asked: Asked) -> str:
+        return tag_of(seen.stamp, asked.canonical.encode(), WRITER.encode())
+
+    def _picture(self, seen: Seen, asked: Asked) -> bytes:
+        reduce = reduction(asked)
+        source, box = Reduced(self, seen, reduce), halved(asked, reduce)
+
+        def neighbours(piece: Box) -> Iterator[Tuple[str, Box, Callable[[Array], bytes]]]:
+            for other in self._tiles_like(asked, reduce, piece):
+                yield self._tag(seen, other), halved(other, reduce), partial(written, asked=other, reduce=reduce)
+        is_small = asked.format in SMALL_FORMATS
+        return self.pieces.answer(source, box, self._tag(seen, asked), partial(written, asked=asked, reduce=reduce),
+                                  neighbours if is_small else None)
+
+    def _tiles_like(self, asked: Asked, reduce: int, piece: Box) -> Iterator[Asked]:
+        """The tiles of a piece, where a tile is asked for as viewers do: on the grid of `info.json`, and not scaled."""
+        image, step, tile = asked.image, 1 << reduce, self.tile
+
+        def tile_at(left: int, upper: int) -> Asked:
+            x, y = left * step, upper * step
+            width, height = min(tile * step, image.width - x), min(tile * step, image.height - y)
+            size, name = size_of(f"{-(-width // step)},{-(-height // step)}", width, height, self.most)
+            return replace(asked, region=(x, y, width, height), size=size, size_name=name)
+        left, upper, _, _ = halved(asked, reduce)
+        if tile <= self.most and tile_at(left // tile * tile, upper // tile * tile) == asked:
+            for y in range(piece[1], piece[3], tile):
+                for x in range(piece[0], piece[2], tile):
+                    yield tile_at(x, y)
+
+    def _info_reply(self, environ: Dict[str, Any], base: str, image: Listed) -> Reply:
+        body = json.dumps(self.info(base, image), indent=1).encode()
+        links = f'<{PROFILE}>;rel="profile"'
+        kind = "application/json"
+        if wants_linked(environ.get("HTTP_ACCEPT", "")):
+            kind = f'{LINKED};profile="{CONTEXT}"'
+        else:
+            links += f', <{CONTEXT}>;rel="http://www.w3.org/ns/json-ld#context";type="{LINKED}"'
+        tag = tag_of(kind.encode(), body)
+        headers = [("Content-Type", kind), ("Link", links), ("Vary", "Accept"), *self._kept_for(tag)]
+        if has_tag(environ, tag):
+            return "304 Not Modified", headers[1:], b""
+        return "200 OK", headers, body
+
+    def _kept_for(self, tag: str) -> Headers:
+        return [("Cache-Control", f"public, max-age={self.max_age}"), ("ETag", tag)]
 
     def __call__(self, environ: Dict[str, Any], start: Callable[..., Any]) -> Iterable[bytes]:
         try:
             status, headers, body = self.reply(environ)
         except Refused as refused:
-            status, headers, body = refused.status, [("Content-Type", "text/plain")], f"{refused}\n".encode()
+            status, headers, body = told(refused.status, refused)
         except NoSuchImage as fault:
-            status, headers, body = "404 Not Found", [("Content-Type", "text/plain")], f"{fault}\n".encode()
+            status, headers, body = told("404 Not Found", fault)
         except BadWindow as fault:
-            status, headers, body = "400 Bad Request", [("Content-Type", "text/plain")], f"{fault}\n".encode()
+            status, headers, body = told("400 Bad Request", fault)
         except (Fault, OSError) as fault:
-            status, headers, body = "502 Bad Gateway", [("Content-Type", "text/plain")], f"{fault}\n".encode()
-        start(status, [*headers, ("Access-Control-Allow-Origin", "*"), ("Content-Length", str(len(body)))])
+            status, headers, body = told("502 Bad Gateway", fault)
+        if status.startswith("405"):
+            headers.append(("Allow", METHODS))
+        if status[:3] not in ("204", "304"):
+            headers.append(("Content-Length", str(len(body))))
+        start(status, [*headers, ("Access-Control-Allow-Origin", "*")])
         return [b"" if environ["REQUEST_METHOD"] == "HEAD" else body]
+
+
+def told(status: str, why: Exception) -> Reply:
+    """The reply to a request that fails."""
+    return status, [("Content-Type", "text/plain; charset=utf-8")], f"{why}\n".encode("utf-8", "replace")
+
+
+def tag_of(*parts: bytes) -> str:
+    """An ETag that differs where one of the parts differs."""
+    return f'"{blake2b(b"".join(blake2b(part).digest() for part in parts), digest_size=16).hexdigest()}"'
+
+
+def has_tag(environ: Dict[str, Any], tag: str) -> bool:
+    """Whether the client has the answer with this ETag already."""
+    tags = environ.get("HTTP_IF_NONE_MATCH", "").split(",")
+    return any(it.strip() == "*" or it.strip().removeprefix("W/") == tag for it in tags)
+
+
+def wants_linked(accept: str) -> bool:
+    """Whether a client asks for JSON-LD by name, and not less than for JSON."""
+    weights: Dict[str, float] = {}
+    for part in accept.split(","):
+        kind, *parameters = (word.strip().lower() for word in part.split(";"))
+        weight = next((word[2:] for word in parameters if word.startswith("q=")), "1")
+        try:
+            weights[kind] = float(weight)
+        except ValueError:
+            weights[kind] = 0
+    return weights.get(LINKED, 0) > 0 and weights[LINKED] >= weights.get("application/json", 0)
 
 
 def from_environment() -> Application:
     """The application for the archive that JK_ARCHIVE names."""
-    return Application(os.environ.get("JK_ARCHIVE", "http://127.0.0.1:8080"))
+    megabytes, seconds = (number_in(name, default) for name, default in (("JK_IIIF_CACHE", CACHE // 10 ** 6),
+                                                                         ("JK_IIIF_MAX_AGE", MAX_AGE)))
+    url = os.environ.get("JK_ARCHIVE", "http://127.0.0.1:8080")
+    return Application(url, cache=megabytes * 10 ** 6, max_age=seconds)
+
+
+def number_in(name: str, default: int) -> int:
+    """The number that a variable of the environment has. ValueError: it has none."""
+    text = os.environ.get(name, str(default))
+    if not (text.isascii() and text.isdigit() and len(text) < 10):
+        raise ValueError(f"{name} is a number of at most 9 digits, and not {text!r}")
+    return int(text)

@@ -22,7 +22,7 @@ import sys
 import tempfile
 import threading
 import webbrowser
-from typing import Dict, Optional, Sequence, Tuple
+from typing import Dict, List, Optional, Sequence, Tuple, cast
 
 HERE = os.path.dirname(os.path.abspath(__file__))
 REPOSITORY = os.path.dirname(os.path.dirname(os.path.dirname(HERE)))
@@ -102,10 +102,11 @@ def knows_hosts(program: str) -> bool:
 
 
 class Served:
-    """`jk serve` over a folder, how many images it has, and the port that it listens at. What it tells goes on to
-    standard error."""
+    """`jk serve` over a folder, how many images it has, the port that it listens at, and the files that it doesn't list,
+    each with the reason. What it says goes on to standard error."""
 
     def __init__(self, program: str, folder: str, workers: int) -> None:
+        self.workers, self.refused = workers, cast(List[Tuple[str, str]], [])
         words = [program, "serve", folder, "--port", "0", "--workers", str(workers)]
         if knows_hosts(program):
             words += ["--host-names", "127.0.0.1"]
@@ -134,6 +135,9 @@ class Served:
                 has_started = True
                 self.told.put((int(found[1]), int(found[2])))
             else:
+                refused = re.match(r"jk: (.+) isn't listed: (.+)", line)
+                if refused:
+                    self.refused.append((refused[1], refused[2]))
                 # It is read to its end, whoever still reads what is told here: else it would wait for a reader.
                 with contextlib.suppress(OSError, ValueError):
                     sys.stderr.write(line)
@@ -172,7 +176,6 @@ class Asked(http.server.BaseHTTPRequestHandler):
     #: A browser that asks nothing for so many seconds is left.
     timeout = 60
     server: "Page"
-    behind: Optional[http.client.HTTPConnection] = None
 
     def do_GET(self) -> None:
         if self.headers.get("Host") not in self.server.hosts:
@@ -180,6 +183,8 @@ class Asked(http.server.BaseHTTPRequestHandler):
         path = self.path.partition("?")[0]
         if path == "/images" or path.startswith("/images/"):
             return self.pass_on()
+        if path == "/refused":
+            return self.reply(200, "text/plain; charset=utf-8", self.server.refused())
         file = self.server.files.get(path)
         if file is None:
             return self.reply(404, "text/plain", b"404 Not Found\n")
@@ -189,8 +194,10 @@ class Asked(http.server.BaseHTTPRequestHandler):
 
     do_HEAD = do_GET
 
-    def reply(self, status: int, kind: str, body: bytes) -> None:
+    def reply(self, status: int, kind: str, body: bytes, *more: Tuple[str, str]) -> None:
         self.send_response(status)
+        for name, value in more:
+            self.send_header(name, value)
         self.send_header("Content-Type", kind)
         self.send_header("Content-Length", str(len(body)))
         self.send_header("Content-Security-Policy", POLICY)
@@ -199,28 +206,13 @@ class Asked(http.server.BaseHTTPRequestHandler):
             self.wfile.write(body)
 
     def pass_on(self) -> None:
-        """What `jk serve` replies, over a connection that this browser's requests share."""
-        for turn in range(2):
-            if self.behind is None:
-                self.behind = http.client.HTTPConnection("127.0.0.1", self.server.archive, timeout=self.timeout)
-            try:
-                self.behind.request("GET", self.path)
-                got = self.behind.getresponse()
-                body = got.read()
-                return self.reply(got.status, got.getheader("Content-Type", "text/plain"), body)
-            except (OSError, http.client.HTTPException):
-                # `jk serve` leaves a connection on which nothing is asked for.
-                self.leave()
-        return self.reply(502, "text/plain", b"jk serve doesn't reply\n")
-
-    def leave(self) -> None:
-        if self.behind is not None:
-            self.behind.close()
-            self.behind = None
-
-    def finish(self) -> None:
-        self.leave()
-        super().finish()
+        """What `jk serve` replies."""
+        got = self.server.asked(self.path)
+        if got is None:
+            return self.reply(502, "text/plain", b"jk serve doesn't reply\n")
+        # The page asks for the list of refused files where there are some.
+        more = [("X-Refused", str(len(self.server.served.refused)))] if self.path == "/images" else []
+        return self.reply(*got, *more)
 
     def log_message(self, *words: object) -> None:
         pass
@@ -232,11 +224,40 @@ class Page(http.server.ThreadingHTTPServer):
     daemon_threads = True
     allow_reuse_address = False
 
-    def __init__(self, port: int, files: Dict[str, str], archive: int) -> None:
+    def __init__(self, port: int, files: Dict[str, str], served: Served, folder: str) -> None:
         super().__init__(("127.0.0.1", port), Asked)
-        self.files, self.archive = files, archive
+        self.files, self.served, self.folder = files, served, folder
+        # A thread of `jk serve` has one connection at a time: a browser's six share as many as there are threads.
+        self.free: queue.LifoQueue[http.client.HTTPConnection] = queue.LifoQueue()
+        for _ in range(served.workers):
+            self.free.put(http.client.HTTPConnection("127.0.0.1", served.port, timeout=Asked.timeout))
         self.address = f"http://127.0.0.1:{self.server_port}/"
         self.hosts = {f"{name}:{self.server_port}" for name in ("127.0.0.1", "localhost")}
+
+    def asked(self, path: str) -> Optional[Tuple[int, str, bytes]]:
+        """What `jk serve` replies to a request: status, type and body. None: it doesn't."""
+        behind = self.free.get()
+        try:
+            for _ in range(2):
+                try:
+                    behind.request("GET", path)
+                    got = behind.getresponse()
+                    return got.status, got.getheader("Content-Type", "text/plain"), got.read()
+                except (OSError, http.client.HTTPException):
+                    # `jk serve` leaves a connection on which nothing is asked for; it is opened again.
+                    behind.close()
+            return None
+        finally:
+            self.free.put(behind)
+
+    def refused(self) -> bytes:
+        """The files that aren't listed, a line each: its name, a tab and the reason. A file of a link has its own name."""
+        lines = []
+        for name, reason in list(self.served.refused):
+            path = os.path.join(self.folder, name)
+            shown = os.path.basename(os.readlink(path)) if os.path.islink(path) else name
+            lines.append("\t".join(re.sub(r"[\t\r\n]", " ", text) for text in (shown, reason)) + "\n")
+        return "".join(lines).encode("utf-8", "backslashreplace")
 
     def handle_error(self, request: object, client_address: object) -> None:
         # A browser that has gone is no fault of the page.
@@ -274,7 +295,7 @@ def show(asked: argparse.Namespace, links: str) -> int:
         if folder == links and served.images == 0:
             raise CannotShow("no image to show")
         try:
-            page = Page(asked.port, files, served.port)
+            page = Page(asked.port, files, served, folder)
         except OSError as error:
             raise CannotShow(f"port {asked.port}: {error.strerror}") from error
         with page:
