@@ -1,20 +1,20 @@
 // What can be refused, in words: the faults of `jk faults` and those of the library, and what the server answers.
 
 const FAULTS = {
-  1: ['Memory', 'a growth of memory was refused'],
-  2: ['Truncated', 'the file, a box or a tile-part ends inside something that was begun, or EOC is missing at the end'],
-  3: ['BadMarker', "a marker that can't stand here, a second one where one is allowed, or a required one absent"],
+  1: ['Memory', 'out of memory'],
+  2: ['Truncated', 'the file, a box or a tile-part is cut off, or EOC is missing at the end'],
+  3: ['BadMarker', "a marker that isn't allowed here, a second one where one is allowed, or a required one is missing"],
   4: ['BadLength', "a segment's length contradicts its contents; Psot from 1 to 13; a length of SOP other than 4"],
-  5: ['BadValue', "a field has a value that T.800 doesn't allow, or another segmentation symbol stands than is due"],
-  6: ['Unsupported', 'T.800 allows it, and jk leaves it out'],
-  7: ['Limit', 'past a limit of jk, as on samples, coordinates, levels, bit-planes, packets or the length of '
+  5: ['BadValue', "a field has a value that T.800 doesn't allow, or a segmentation symbol is wrong"],
+  6: ['Unsupported', 'allowed by T.800, but not supported by jk'],
+  7: ['Limit', 'past a limit of jk, such as on samples, coordinates, levels, bit-planes, packets or the length of '
     + 'a tile-part'],
-  8: ['PacketHeader', 'a stuffed bit is 1, the zero bit-planes pass Mb, a length field is wider than 32 bits, '
-    + 'or other bytes stand where EPH must'],
+  8: ['PacketHeader', 'a stuffed bit is 1, more zero bit-planes than Mb, a length field wider than 32 bits, '
+    + 'or EPH is missing'],
   9: ['TooManyPasses', 'more coding passes of a code-block than its bit-planes have'],
   10: ['CodeOutOfInterval', 'the code value leaves the interval of the MQ coder'],
   11: ['MissingPackets', 'the tile-parts of a tile end with packets left, or a tile has no tile-part'],
-  12: ['SurplusBytes', "bytes stand after a tile's last packet, or after EOC"],
+  12: ['SurplusBytes', "bytes after a tile's last packet or after EOC"],
   13: ['BadBox', 'the structure of the JP2 boxes is broken'],
   16: ['BadWindow', 'a reduction past the least number of levels, or a window or reduced image without a sample'],
   17: ['NoSuchImage', "the name isn't listed"],

@@ -488,8 +488,8 @@ XMP_BOX = bytes.fromhex("be7acfcb97a942e89c71999491e3afac") + b"<x/>"
 @pytest.mark.parametrize("boxes, carried, told", [
     ([], "", []), ([(b"res ", GRID, True)], "resolution", []),
     ([(b"res ", GRID + GRID.replace(b"resc", b"resd"), True)], "resolution", ["display resolution"]),
-    ([(b"res ", bytes(18), True)], "", ["what stands there: F2 Truncated: the file, a box or a tile-part ends inside something that "
-                                        "was begun, or EOC is missing at the end"]),
+    ([(b"res ", bytes(18), True)], "", ["what stands there: F2 Truncated: the file, a box or a tile-part is cut off, or EOC "
+                                        "is missing at the end"]),
     ([(b"colr", b"\2\0\0" + bytes(9), True)], "", ["further colours"]),
     ([(b"uuid", XMP_BOX, False), (b"xml ", b"<x/>", False)], "XMP", ["a box xml"]),
     ([(b"uuid", bytes(20), False)], "", ["a uuid box"]), ([(b"uinf", bytes(4), False)], "", ["a box uinf"]),

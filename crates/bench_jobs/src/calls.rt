@@ -2,7 +2,7 @@
 
 use crate::chance::Chance;
 use jk_code::decode_window;
-use jk_commands::{EncodeOptions, cut_file, decode_file_into, encode_file_into, judge};
+use jk_commands::{EncodeOptions, cut_file, decode_rows_into, encode_file_into, judge};
 use jk_math::{Fault, Image};
 use jk_window::View;
 use std::alloc::Global;
@@ -34,7 +34,7 @@ pub(crate) fn encoded(
 /// The PGM or PPM file of a file at a reduction.
 pub(crate) fn decoded(alloc: Global, file: &Vec<u8>, reduce: u32) -> Result<Vec<u8>, Fault> {
     let mut drawn = Vec::new(alloc);
-    decode_file_into(alloc, file.clone()?, reduce, &mut drawn)?;
+    decode_rows_into(alloc, file, reduce, &mut drawn)?;
     Ok(drawn)
 }
 

@@ -1,7 +1,7 @@
 -- The lines that `jk extras` writes: a LABEL, a colon, a space and a VALUE. Those of a file with a
 -- profile beside sRGB, 300 samples by the inch, XML and XMP are these: colour: profile=480 colour: sRGB
 -- capture: 15000/127e2x15000/127e2 xml: 120 uuid: be7acfcb97a942e89c71999491e3afac=300
-use Rattle.std.specs.Prelude.{ℕ, zero, suc, ◌+◌, ◌-◌, ◌==◌, nat_lt, false, if◌then◌else◌}
+use Rattle.std.specs.Prelude.{◌≡◌, ℕ, ◌-◌, ◌==◌, ◌⊎◌, nat_lt, false, if◌then◌else◌}
 use Rattle.std.specs.Prelude.{List, [], ◌∷◌, ◌++◌, length, take, drop, slice_index, slice_range, codes}
 use Rattle.std.specs.Prelude.{Option, Some, None, Result, Ok, Err}
 use Rattle.std.specs.Fmt.{decimal, signed_decimal}
@@ -15,12 +15,12 @@ use Rattle.jk_boxes.specs.Boxes.{colour_kind}
 use Rattle.jk_boxes.specs.Reading.{boxes_at, contents_of}
 use Rattle.jk_extras.specs.declared.grids.Ratio.{Ratio}
 use Rattle.jk_extras.specs.declared.grids.Grid.{Grid}
-use Rattle.jk_extras.specs.declared.finding.Wanted.TheVariants.{Others}
+use Rattle.jk_extras.specs.declared.finding.Found.{Found}
 use Rattle.jk_extras.specs.Passing.{passed_by}
-use Rattle.jk_extras.specs.Finding.{xml_kind, found_at, header_found}
-use Rattle.jk_extras.specs.Texts.{if_found}
+use Rattle.jk_extras.specs.Finding.{xml_kind, header_found}
 use Rattle.jk_extras.specs.declared.told.Told.{Told}
 use Rattle.jk_extras.specs.Reading.{extras_at}
+use Rattle.jk_beside.specs.Others.{AreOthers, AreBefore, AreBroken, held_bytes}
 
 -- LABEL: VALUE, and LF
 abbrev pub told_line : List ℕ → List ℕ → List ℕ
@@ -99,12 +99,22 @@ other_line kind contents =
 abbrev pub other_behind : List ℕ → ℕ → List ℕ → Result (List ℕ) Fault
 other_behind known kind contents = other_line kind contents >>= λ line. Ok (known ++ line)
 
--- what is known, and behind it a line for each of these boxes from a place on, n at most
-unfoldable pub others_from : ℕ → List ℕ → ℕ → List ℕ → Result (List ℕ) Fault
-others_from zero known at file = Ok known
-others_from (suc n) known at file = found_at Others at file
-    >>= λ f. if_found f (Ok known) (λ g. other_behind known g.head.kind (contents_of g.head (drop g.at file))
-    >>= λ next. others_from n next (g.at + g.head.size) file)
+-- a line for each of these boxes
+abbrev pub AreLines : List ℕ → List Found → List ℕ → Type 0
+AreLines file [] text = text ≡ []
+AreLines file (f ∷ fs) text =
+    (line : List ℕ) × (rest : List ℕ) × (other_line f.head.kind (held_bytes file f) ≡ Ok line) × AreLines file fs rest × (text ≡ line ++ rest)
+
+-- a line for each box from a place on
+abbrev pub IsOthersText : List ℕ → ℕ → List ℕ → Type 0
+IsOthersText file at text = (fs : List Found) × AreOthers file at fs × AreLines file fs text
+
+-- Each box has a line up to one that can't be read, or that has none.
+abbrev pub IsOthersFault : List ℕ → ℕ → Fault → Type 0
+IsOthersFault file at e =
+    ((fs : List Found) × (text : List ℕ) × AreBroken file at fs e × AreLines file fs text)
+    ⊎ ((fs : List Found) × (text : List ℕ) × (f : Found) × AreBefore file at fs f × AreLines file fs text
+    × (other_line f.head.kind (held_bytes file f) ≡ Err e))
 
 -- ---- all of them
 
@@ -112,8 +122,17 @@ others_from (suc n) known at file = found_at Others at file
 abbrev pub grid_lines : Told → List ℕ
 grid_lines told = grid_line (codes "capture") told.capture ++ grid_line (codes "display") told.display
 
-unfoldable pub listed_at : List ℕ → Result (List ℕ) Fault
-listed_at file = do
-  told ← extras_at file
-  colours ← colours_at file
-  others_from (length file) (colours ++ grid_lines told) told.others file
+pub record IsListing (file text : List ℕ) : Type 0 where
+  pub told : Told
+  pub colours : List ℕ
+  pub others : List ℕ
+  pub extras : extras_at file ≡ Ok told
+  pub colour : colours_at file ≡ Ok colours
+  pub other : IsOthersText file told.others others
+  pub text_is : text ≡ (colours ++ grid_lines told) ++ others
+
+-- why there are none
+abbrev pub IsUnlisted : List ℕ → Fault → Type 0
+IsUnlisted file e =
+    (extras_at file ≡ Err e)
+    ⊎ ((told : Told) × (extras_at file ≡ Ok told) × ((colours_at file ≡ Err e) ⊎ IsOthersFault file told.others e))

@@ -1,17 +1,17 @@
 -- What is taken out of a file: its profile, XML, what stands under a UUID.
-use Rattle.std.specs.Prelude.{ℕ, zero, suc, ◌+◌, ◌==◌, ◌||◌, nat_lt, if◌then◌else◌}
-use Rattle.std.specs.Prelude.{List, length, take, drop, slice_range, Option, Some, None, Result, Ok, Err}
+use Rattle.std.specs.Prelude.{◌≡◌, ℕ, ◌==◌, ◌||◌, ◌⊎◌, nat_lt, if◌then◌else◌}
+use Rattle.std.specs.Prelude.{List, [], ◌∷◌, length, take, drop, slice_range, Option, Some, None, Result, Ok, Err}
 use Rattle.std.specs.Str.{bytes_eq}
 use Rattle.jk_math.specs.Answer.{◌>>=◌}
 use Rattle.jk_math.specs.declared.fault.Fault.{Fault}
 use Rattle.jk_math.specs.declared.fault.Fault.TheVariants.{BadBox}
-use Rattle.jk_boxes.specs.Reading.{contents_of}
 use Rattle.jk_extras.specs.declared.header.ToldColour.{ToldColour}
 use Rattle.jk_extras.specs.declared.header.ToldColour.TheVariants.{Nothing, Enumerated, Profile}
-use Rattle.jk_extras.specs.declared.finding.Wanted.TheVariants.{Others}
-use Rattle.jk_extras.specs.Finding.{xml_kind, found_at}
-use Rattle.jk_extras.specs.Texts.{if_found}
+use Rattle.jk_extras.specs.declared.finding.Found.{Found}
+use Rattle.jk_extras.specs.declared.told.Told.{Told}
+use Rattle.jk_extras.specs.Finding.{xml_kind}
 use Rattle.jk_extras.specs.Reading.{extras_at}
+use Rattle.jk_beside.specs.Others.{AreOthers, AreBefore, AreBroken, held_bytes}
 use Rattle.jk_beside.specs.declared.taking.Item.{Item}
 use Rattle.jk_beside.specs.declared.taking.Item.TheVariants.{Xml, Uuid}
 
@@ -41,16 +41,32 @@ held_by item kind contents =
     if kind == xml_kind then Ok (of_xml item contents)
     else (if nat_lt (length contents) 16 then Err BadBox else Ok (of_uuid item contents))
 
--- the first that holds the item, of n boxes at most from a place on
-abbrev pub or_later : Option (List ℕ) → Result (Option (List ℕ)) Fault → Result (Option (List ℕ)) Fault
-or_later (Some found) later = Ok (Some found)
-or_later None later = later
+-- what one of the boxes of a file holds of an item
+abbrev pub held_in : Item → List ℕ → Found → Result (Option (List ℕ)) Fault
+held_in item file f = held_by item f.head.kind (held_bytes file f)
 
-unfoldable pub item_from : Item → ℕ → ℕ → List ℕ → Result (Option (List ℕ)) Fault
-item_from item zero at file = Ok None
-item_from item (suc n) at file = found_at Others at file
-    >>= λ f. if_found f (Ok None) (λ g. held_by item g.head.kind (contents_of g.head (drop g.at file))
-    >>= λ held. or_later held (item_from item n (g.at + g.head.size) file))
+-- none of them holds it
+abbrev pub HoldNone : Item → List ℕ → List Found → Type 0
+HoldNone item file [] = Unit {0}
+HoldNone item file (f ∷ fs) = (held_in item file f ≡ Ok None) × HoldNone item file fs
 
-unfoldable pub item_at : Item → List ℕ → Result (Option (List ℕ)) Fault
-item_at item file = extras_at file >>= λ told. item_from item (length file) told.others file
+-- The first box from a place on that holds the item, and what it holds; or none does.
+abbrev pub HasItem : Item → List ℕ → ℕ → Option (List ℕ) → Type 0
+HasItem item file at None = (fs : List Found) × AreOthers file at fs × HoldNone item file fs
+HasItem item file at (Some held) =
+    (fs : List Found) × (f : Found) × AreBefore file at fs f × HoldNone item file fs × (held_in item file f ≡ Ok (Some held))
+
+-- None of the boxes holds it up to one that can't be read, or of which it can't be said.
+abbrev pub HasNoItem : Item → List ℕ → ℕ → Fault → Type 0
+HasNoItem item file at e =
+    ((fs : List Found) × AreBroken file at fs e × HoldNone item file fs)
+    ⊎ ((fs : List Found) × (f : Found) × AreBefore file at fs f × HoldNone item file fs × (held_in item file f ≡ Err e))
+
+-- the item of a file
+abbrev pub IsItemOf : Item → List ℕ → Option (List ℕ) → Type 0
+IsItemOf item file o = (told : Told) × (extras_at file ≡ Ok told) × HasItem item file told.others o
+
+-- why it can't be taken
+abbrev pub IsNotTaken : Item → List ℕ → Fault → Type 0
+IsNotTaken item file e =
+    (extras_at file ≡ Err e) ⊎ ((told : Told) × (extras_at file ≡ Ok told) × HasNoItem item file told.others e)

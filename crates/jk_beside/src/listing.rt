@@ -1,11 +1,11 @@
 //! The lines that list what a file keeps.
 
-ghost use Rattle.std.specs.Prelude.{◌≡◌, ◌≤◌, ◌++◌, Ok, length, OnOk, IfErr};
+ghost use Rattle.std.specs.Prelude.{◌≡◌, ◌≤◌, ◌++◌, ◌⊎◌, ℕ, List, Ok, length, IfOk, OnOk, IfErr};
 ghost use Rattle.std.specs.String.{string_bytes};
 ghost use Rattle.jk_math.specs.Answer.{Answers};
 ghost use Rattle.jk_math.specs.Memory.{IsMemory};
 ghost use Rattle.jk_boxes.specs.Boxes.{head_size};
-ghost use Rattle.jk_beside.specs.Listing.{colour_step, colours_in, colours_at, others_from, listed_at};
+ghost use Rattle.jk_beside.specs.Listing.{colour_step, colours_in, colours_at, IsOthersText, IsOthersFault, IsListing, IsUnlisted};
 
 use crate::lines::{put_colour, put_grid, put_other};
 use jk_boxes::{BoxHead, COLOUR, open, read_box};
@@ -60,8 +60,9 @@ fn colour_lines(alloc: Global, file: &[u8]) -> Result<String, Fault>
 
 /// Appends the lines of boxes of XML and under UUIDs of a file, from a place on.
 fn put_others(alloc: Global, lines: &mut String, file: &[u8], from: usize) -> Result<(), Fault>
-    ensures { Answers (λ _. string_bytes lines.new) result
-        (others_from (length file.now) (string_bytes lines.old) from file.now) }
+    ensures ok { OnOk result ((text : List ℕ) × IsOthersText file.now from text
+        × (string_bytes lines.new ≡ string_bytes lines.old ++ text)) }
+    ensures err { IfErr result (λ e. IsMemory e ⊎ IsOthersFault file.now from e) }
 {
     let mut at = from;
     while at < file.len() {
@@ -76,9 +77,9 @@ fn put_others(alloc: Global, lines: &mut String, file: &[u8], from: usize) -> Re
     Ok(())
 }
 
-#[tactic(auto, unfolding(crate::specs::Listing::listed_at))]
 fn listed(alloc: Global, file: &[u8]) -> Result<String, Fault>
-    ensures { Answers string_bytes result (listed_at file.now) }
+    ensures ok { IfOk result (λ lines. IsListing file.now (string_bytes lines)) }
+    ensures err { IfErr result (λ e. IsMemory e ⊎ IsUnlisted file.now e) }
 {
     let told = extras_at(file)?;
     let mut lines = colour_lines(alloc, file)?;
@@ -101,7 +102,8 @@ fn listed(alloc: Global, file: &[u8]) -> Result<String, Fault>
 ///
 /// A bare codestream has no line. The faults are those of `extras_at`, and then of `other_after`.
 pub fn extras_lines(alloc: Global, file: &[u8]) -> Result<String, Fault>
-    ensures exact { Answers string_bytes result (listed_at file.now) }
+    ensures ok { IfOk result (λ lines. IsListing file.now (string_bytes lines)) }
+    ensures err { IfErr result (λ e. IsMemory e ⊎ IsUnlisted file.now e) }
 {
     listed(alloc, file)
 }

@@ -1,8 +1,8 @@
 //! What is taken out of a file.
 
-ghost use Rattle.std.specs.Prelude.{◌≡◌, ◌≤◌, length, option_map};
+ghost use Rattle.std.specs.Prelude.{◌≡◌, ◌≤◌, length, option_map, IfOk, IfErr};
 ghost use Rattle.jk_math.specs.Answer.{AnswersExactly};
-ghost use Rattle.jk_beside.specs.Taking.{profile_told, profile_at, of_uuid, held_by, item_from, item_at};
+ghost use Rattle.jk_beside.specs.Taking.{profile_told, profile_at, of_uuid, held_by, HasItem, HasNoItem, IsItemOf, IsNotTaken};
 
 use jk_extras::{ToldColour, Wanted, XML, extras_at, find};
 use jk_math::Fault;
@@ -78,8 +78,8 @@ fn held_by(item: Item, kind: u32, contents: &[u8]) -> Result<Option<&[u8]>, Faul
 
 /// The first box of XML or under a UUID, from a place on, that holds an item.
 fn item_from(item: Item, file: &[u8], from: usize) -> Result<Option<&[u8]>, Fault>
-    ensures { AnswersExactly (λ o. option_map (λ b. b.now) o) result
-        (item_from item (length file.now) from file.now) }
+    ensures ok { IfOk result (λ o. HasItem item file.now from (option_map (λ b. b.now) o)) }
+    ensures err { IfErr result (λ e. HasNoItem item file.now from e) }
 {
     let mut at = from;
     while at < file.len() {
@@ -99,9 +99,9 @@ fn item_from(item: Item, file: &[u8], from: usize) -> Result<Option<&[u8]>, Faul
 
 /// What the first box of XML of a file holds, or the first under a UUID behind the UUID, if there is
 /// one. The faults are those of `extras_at`, and then of `other_after` up to that box.
-#[tactic(auto, unfolding(crate::specs::Taking::item_at))]
 pub fn item_in(item: Item, file: &[u8]) -> Result<Option<&[u8]>, Fault>
-    ensures exact { AnswersExactly (λ o. option_map (λ b. b.now) o) result (item_at item file.now) }
+    ensures ok { IfOk result (λ o. IsItemOf item file.now (option_map (λ b. b.now) o)) }
+    ensures err { IfErr result (λ e. IsNotTaken item file.now e) }
 {
     let told = extras_at(file)?;
     item_from(item, file, told.others)

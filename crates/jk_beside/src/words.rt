@@ -5,7 +5,7 @@ ghost use Rattle.std.specs.List.{list_all};
 ghost use Rattle.std.specs.Char.{is_ascii_digit, digit_value};
 ghost use Rattle.std.specs.Str.Parse.{digits_value_after};
 ghost use Rattle.jk_math.specs.declared.fault.Fault.TheVariants.{BadParameters};
-ghost use Rattle.jk_beside.specs.Words.{IsWhole, IsQuotient, IsDecimal, IsInches, IsResolution, IsNamed};
+ghost use Rattle.jk_beside.specs.Words.{IsWhole, IsQuotient, IsDecimal, IsInches, IsHeldInches, IsResolution, IsHeldResolution, IsNamed};
 
 use hex::FromHex;
 use jk_extras::{Grid, Ratio, per_inch};
@@ -41,7 +41,7 @@ fn digits_behind(before: u32, digits: &[u8]) -> Option<u32>
 /// Ten to a number, up to 9.
 fn power_of_ten(exponent: usize) -> Option<u32>
     ensures value { IfSome result (λ n. n ≡ 10 ^ exponent) }
-    ensures one { exponent ≡ 0 → IsSome result }
+    ensures some { 10 ^ exponent < 2 ^ 32 → IsSome result }
 {
     let mut power = 1u32;
     for _ in 0..exponent {
@@ -53,7 +53,7 @@ fn power_of_ten(exponent: usize) -> Option<u32>
 /// The number of digits before a point and behind it, as its numerator and its denominator.
 fn quotient(whole: &[u8], fraction: &[u8]) -> Option<(u32, u32)>
     ensures value { IfSome result (λ r. IsQuotient whole.now fraction.now r.0 r.1) }
-    ensures whole { (n : ℕ) → IsWhole whole.now n → n < 2 ^ 32 → fraction.now ≡ [] → IsSome result }
+    ensures some { (n d : ℕ) → IsQuotient whole.now fraction.now n d → n < 2 ^ 32 → d < 2 ^ 32 → IsSome result }
 {
     if whole.is_empty() {
         return None;
@@ -67,7 +67,7 @@ fn quotient(whole: &[u8], fraction: &[u8]) -> Option<(u32, u32)>
 /// A decimal number, as its numerator and its denominator.
 fn decimal(text: &str) -> Option<(u32, u32)>
     ensures value { IfSome result (λ r. IsDecimal text.now r.0 r.1) }
-    ensures whole { (n : ℕ) → IsWhole text.now n → n < 2 ^ 32 → result ≡ Some (n, 1) }
+    ensures some { (n d : ℕ) → IsDecimal text.now n d → n < 2 ^ 32 → d < 2 ^ 32 → result ≡ Some (n, d) }
 {
     match text.split_once('.') {
         Some((whole, fraction)) => quotient(whole.as_bytes(), fraction.as_bytes()),
@@ -78,7 +78,7 @@ fn decimal(text: &str) -> Option<(u32, u32)>
 /// So many samples by the inch.
 fn inches(text: &str) -> Option<Ratio>
     ensures found { IfSome result (λ r. IsInches text.now r) }
-    ensures whole { (n : ℕ) → IsWhole text.now n → 1 ≤ n → n < 2 ^ 16 → IsSome result }
+    ensures some { (r : Ratio) → IsHeldInches text.now r → IsSome result }
 {
     let (numerator, denominator) = decimal(text)?;
     per_inch(numerator, denominator)
@@ -87,7 +87,7 @@ fn inches(text: &str) -> Option<Ratio>
 /// The resolution of a text.
 fn grid(text: &str) -> Option<Grid>
     ensures found { IfSome result (λ g. IsResolution text.now g) }
-    ensures whole { (n : ℕ) → IsWhole text.now n → 1 ≤ n → n < 2 ^ 16 → IsSome result }
+    ensures some { (g : Grid) → IsHeldResolution text.now g → IsSome result }
 {
     match text.split_once('x') {
         None => {
@@ -108,11 +108,14 @@ fn grid(text: &str) -> Option<Grid>
 /// The resolution that a text names by the inch: `N`, or `NxM` for the samples of a row and of a
 /// column. Each is digits, and may have a point and digits behind it.
 ///
-/// BadParameters: another text, or a number that no ratio of 16 bits has exactly (`per_inch`).
+/// BadParameters: another text; a number that no ratio of 16 bits with a power of ten is (`per_inch`);
+/// more than 9 digits after a point, or digits that are a number of more than 32 bits without it.
 pub fn resolution_named(text: &str) -> Result<Grid, Fault>
     ensures found { IfOk result (λ g. IsResolution text.now g) }
     ensures err { IfErr result (λ e. e ≡ BadParameters) }
-    // Each whole number from 1 to 65,535 is read.
+    // Each text that names a resolution that a file can hold is read,
+    ensures some { (g : Grid) → IsHeldResolution text.now g → IsOk result }
+    // and each whole number from 1 to 65,535.
     ensures whole { (n : ℕ) → IsWhole text.now n → 1 ≤ n → n < 2 ^ 16 → IsOk result }
 {
     match grid(text) {

@@ -1,26 +1,23 @@
 -- What is handed out where an image is to be encoded.
-use Rattle.std.proofs.Common.{◌≡◌, ◌⊎◌, inl, inr, ℕ, ℤ, pos, true, false, ◌*◌, ◌+◌, List, [], ◌++◌, length, map, Ok, Err, Result, Some, refl, sym, ap, subst, ◌∙◌, arith}
+use Rattle.std.proofs.Common.{◌≡◌, ◌⊎◌, inl, inr, ℕ, ℤ, pos, true, false, ◌*◌, ◌+◌, List, [], ◌++◌, map, Ok, Err, Result, refl, sym, ap, subst, ◌∙◌, arith}
 use Rattle.std.specs.Global.{Vec}
 use Rattle.std.specs.List.{range_with_len}
 use Rattle.std.specs.Bool.{⊤}
-use Rattle.std.specs.Prelude.{MatchResult, IfOk}
-use Rattle.std.specs.Io.KnownBytes.{Appends}
+use Rattle.std.specs.Prelude.{MatchResult}
 use Rattle.std.proofs.Math.Path.{fun_ext}
 use Rattle.std.proofs.Math.ListN.{get_or-map}
-use Rattle.std.proofs.lemmas.List.{map-id, length-map}
-use Rattle.jk_math.specs.Answer.{Answers}
+use Rattle.std.proofs.lemmas.List.{map-id}
 use Rattle.jk_math.specs.Memory.{IsMemory}
 use Rattle.jk_math.specs.declared.fault.Fault.{Fault}
-use Rattle.jk_math.specs.declared.fault.Fault.TheVariants.{BadParameters, Shelf}
+use Rattle.jk_math.specs.declared.fault.Fault.TheVariants.{BadParameters}
 use Rattle.jk_math.specs.Picture.{Picture, IsPicture}
 use Rattle.jk_params.specs.declared.parameters.Parameters.{Parameters}
-use Rattle.jk_params.specs.declared.picture_frame.PictureFrame.{PictureFrame}
 use Rattle.jk_params.specs.Profile.{is_profile}
 use Rattle.jk_code.specs.Meaning.{Means}
 use Rattle.jk_code.specs.Fronts.{HasFronts}
 use Rattle.jk_code.specs.Written.{written}
-use Rattle.jk_code.specs.Beginnings.{IsLeft}
-use Rattle.jk_code.specs.RowsWritten.{WereAllGiven, IsWrittenOf}
+use Rattle.jk_code.specs.Beginnings.{IsLeftBy}
+use Rattle.jk_code.specs.RowsWritten.{WereAllGiven, IsWrittenOfBy}
 use Rattle.jk_c.specs.declared.coding.CallerCoding.{CallerCoding}
 use Rattle.jk_c.specs.declared.frames.CallerFrame.{CallerFrame}
 use Rattle.jk_c.specs.declared.pixel_supply.PixelSupply.{PixelSupply}
@@ -29,11 +26,10 @@ use Rattle.jk_c.specs.Codes.{code_of}
 use Rattle.jk_c.specs.Codings.{IsKnownCoding, AreParameters}
 use Rattle.jk_c.specs.Encodings.{IsEncodedBy, IsEncodedFile, IsEncoded}
 use Rattle.jk_c.specs.Frames.{IsKnownFrame, IsCountable, framed, picture_from}
-use Rattle.jk_c.specs.Pictured.{pictured, stripe_in}
+use Rattle.jk_c.specs.Pictured.{pictured}
 use Rattle.jk_c.specs.PixelsGiven.{picture_of, HasGivenRows, HasRefusedRows}
 use Rattle.jk_c.specs.Signed.{IsKnownSignedFrame, signed_picture_from}
 use Rattle.jk_c.proofs.Answering.{memory_is, bytes_due, bytes_found}
-use Rattle.jk_c.proofs.PicturedLaws.{stripe_whole}
 use Rattle.jk_c.proofs.SupplyLaws.{all_given, met_outside}
 
 -- ---- the picture of a caller's list
@@ -55,7 +51,7 @@ outside p q is = rw is refl
 
 -- a file that was written whole
 pub whole_file : {X : Type 0} (value : X → ℤ) (s t : PixelSupply X) (k : CallerCoding) (q : Parameters) (none : List ℕ) (v : Vec ℕ) → s.given ≡ 0 → AreParameters k q → IsKnownCoding k → none ≡ []
-    → (p : Picture) × WereAllGiven (HasGivenRows value) s.frame s t p × (file : List ℕ) × (written p q ≡ Ok file) × Appends (Some none) (Some v.items) file × Means file 0 p × HasFronts p q file
+    → (p : Picture) × WereAllGiven (HasGivenRows value) s.frame s t p × (file : List ℕ) × (written p q ≡ Ok file) × (v.items ≡ none ++ file) × Means file 0 p × HasFronts p q file
     → IsEncodedFile (picture_of value s) k (Ok v)
 whole_file value s t k q none v first are known empty h =
     let items : v.items ≡ h.2 = h.4 ∙ ap (λ (xs : List ℕ). xs ++ h.2) empty in
@@ -70,14 +66,14 @@ whole_file value s t k q none v first are known empty h =
     inr (inr (subst (λ (p : Picture). IsEncodedBy p k (Ok v)) (all_given value s t h.0 first h.1) by))
 
 -- a fault of encoding its picture
-left_by : (p : Picture) (k : CallerCoding) (q : Parameters) (text : List ℕ) (e : Fault) → AreParameters k q → IsKnownCoding k → IsPicture p → IsLeft p q text e → IsEncodedFile p k (Err e)
+left_by : (p : Picture) (k : CallerCoding) (q : Parameters) (text : List ℕ) (e : Fault) → AreParameters k q → IsKnownCoding k → IsPicture p → IsLeftBy IsMemory p q text e → IsEncodedFile p k (Err e)
 left_by p k q text e are known is left = elim left [
   | inl bad ↦
       inr (inr (subst (λ (x : Fault). IsEncodedBy p k (Err x)) (sym bad.0) (record { parameters = q; are = are; known = known; picture = is; file = outside p q bad.1; means = tt })))
   | inr rest ↦ elim rest [
     | inl limit ↦
         inr (inr (subst (λ (x : Fault). IsEncodedBy p k (Err x)) (sym limit.0) (record { parameters = q; are = are; known = known; picture = is; file = limit.1; means = tt })))
-    | inr refused ↦ inl refused.0
+    | inr refused ↦ elim refused.0 [ inl memory ↦ inl memory | inr memory ↦ inl memory ]
   ]
 ]
 
@@ -89,45 +85,28 @@ same_fault e f is = cc
 
 -- what was left where it wasn't
 pub left_file : {X : Type 0} (value : X → ℤ) (s t : PixelSupply X) (k : CallerCoding) (q : Parameters) (text : List ℕ) (e : Fault) → s.given ≡ 0 → AreParameters k q → IsKnownCoding k
-    → IsWrittenOf (HasGivenRows value) (HasRefusedRows value) s.frame q s t text (Err e) → IsEncodedFile (picture_of value s) k (Err e)
+    → IsWrittenOfBy IsMemory (HasGivenRows value) (HasRefusedRows value) s.frame q s t text (Err e) → IsEncodedFile (picture_of value s) k (Err e)
 left_file value s t k q text e none are known h = elim h [
   | inl refused ↦
       let same = same_fault e refused.0 refused.1 in
       elim refused.2 [
-        | inl memory ↦ inl (inl (subst IsMemory (sym same) memory))
+        | inl memory ↦ inl (subst IsMemory (sym same) memory)
         | inr met ↦ let m = met_outside value s t refused.0 met in inr (inl (ap (λ (x : Fault). Err x) (same ∙ m.0), λ is coding. m.1 is))
       ]
   | inr left ↦ subst (λ (p : Picture). IsEncodedFile p k (Err e)) (all_given value s t left.0 none left.1) (left_by left.0 k q text e are known left.1.picture left.2)
 ]
 
--- the file of the whole picture
-pub image_file : {X : Type 0} (value : X → ℤ) (f : PictureFrame) (pixels : List X) (p : Picture) (k : CallerCoding) (q : Parameters) (r : Result (Vec ℕ) Fault) → length pixels ≡ f.width * f.height * f.components
-    → p ≡ stripe_in f (map value pixels) 0 f.height → IsPicture p → AreParameters k q → IsKnownCoding k → Answers (λ (v : Vec ℕ). v.items) r (written p q) → IfOk r (λ v. Means v.items 0 p)
-    → IsEncodedFile (pictured f (map value pixels)) k r
-image_file value f pixels p k q r whole is picture are known file means =
-    let by : IsEncodedBy p k r = record { parameters = q; are = are; known = known; picture = picture; file = file; means = means } in
-    inr (inr (subst (λ (p : Picture). IsEncodedBy p k r) (is ∙ stripe_whole f (map value pixels) (length-map pixels value ∙ whole)) by))
-
 -- ---- what is handed out of it
 
 -- Memory, and the room is as before
-memory_out : (r : Result (Vec ℕ) Fault) (before after : Room) (code : ℕ) → MatchResult r (λ _. ⊥) (λ e. IsMemory e ⊎ (e ≡ Shelf)) → (r ≡ Err Shelf → ⊥) → HandsOut (bytes_of r) before code after
-    → (code ≡ 1) × (after ≡ before)
-memory_out (Ok v) before after code h other given = absurd h
-memory_out (Err e) before after code h other given = elim h [
-  | inl memory ↦ (given.0 ∙ memory_is e memory, given.1)
-  | inr shelf ↦ absurd (other (ap (λ (x : Fault). Err x) shelf))
-]
+memory_out : (r : Result (Vec ℕ) Fault) (before after : Room) (code : ℕ) → MatchResult r (λ _. ⊥) IsMemory → HandsOut (bytes_of r) before code after → (code ≡ 1) × (after ≡ before)
+memory_out (Ok v) before after code h given = absurd h
+memory_out (Err e) before after code h given = (given.0 ∙ memory_is e h, given.1)
 
 -- a fault, and the room is as before
 fault_out : (r : Result (Vec ℕ) Fault) (e : Fault) (before after : Room) (code : ℕ) → r ≡ Err e → HandsOut (bytes_of r) before code after
     → (code ≡ code_of e) × (after ≡ before)
 fault_out r e before after code is given = subst (λ (r : Result (Vec ℕ) Fault). HandsOut (bytes_of r) before code after) is given
-
-is_shelf : (r : Result (Vec ℕ) Fault) → (r ≡ Err Shelf) ⊎ (r ≡ Err Shelf → ⊥)
-is_shelf (Ok v) = inr (λ is. cc)
-is_shelf (Err Shelf) = inl refl
-is_shelf (Err e) = inr (λ is. cc)
 
 memory_told : (p : Picture) (k : CallerCoding) (before after : Room) (code : ℕ) → (code ≡ 1) × (after ≡ before) → IsEncoded p k before code after
 memory_told p k before after code h = record {
@@ -136,10 +115,10 @@ memory_told p k before after code h = record {
   means = λ done. absurd (let one = h.0 in omega (arith, one, done));
 }
 
-handed_out : (p : Picture) (k : CallerCoding) (r : Result (Vec ℕ) Fault) (before after : Room) (code : ℕ) → IsEncodedFile p k r → (r ≡ Err Shelf → ⊥) → HandsOut (bytes_of r) before code after
+pub handed_out : (p : Picture) (k : CallerCoding) (r : Result (Vec ℕ) Fault) (before after : Room) (code : ℕ) → IsEncodedFile p k r → HandsOut (bytes_of r) before code after
     → IsEncoded p k before code after
-handed_out p k r before after code file other given = elim file [
-  | inl memory ↦ memory_told p k before after code (memory_out r before after code memory other given)
+handed_out p k r before after code file given = elim file [
+  | inl memory ↦ memory_told p k before after code (memory_out r before after code memory given)
   | inr rest ↦ elim rest [
     | inl bad ↦
         let out = fault_out r BadParameters before after code bad.0 given in
@@ -157,14 +136,6 @@ handed_out p k r before after code file other given = elim file [
       means = λ done. bytes_found r (λ (bytes : List ℕ). Means bytes 0 p) before after code by.means given done;
     }
   ]
-]
-
--- A write that failed was a growth of memory.
-pub written_out : (p : Picture) (k : CallerCoding) (r : Result (Vec ℕ) Fault) (before after : Room) (code : ℕ) → IsEncodedFile p k r
-    → (r ≡ Err Shelf → (code ≡ 1) × (after ≡ before)) → ((r ≡ Err Shelf → ⊥) → HandsOut (bytes_of r) before code after) → IsEncoded p k before code after
-written_out p k r before after code file failed other = elim (is_shelf r) [
-  | inl shelf ↦ memory_told p k before after code (failed shelf)
-  | inr isnt ↦ handed_out p k r before after code file isnt (other isnt)
 ]
 
 -- ---- as calls give it

@@ -97,7 +97,7 @@ stripes_left {X} value bits signed p y z a b [] low h fits = record {
 stripes_left {X} value bits signed p y z a b (s ∷ stripes) low h fits =
     let order : y ≤ s.0 = (let lt = h.0 in omega (arith, lt)) in
     let rest = stripes_left value bits signed p s.0 z s.1 b stripes (omega (arith, low, order)) h.3 fits in
-    let here = h.2 rest.fits in
+    let here = h.2.taken rest.fits in
     let samples : HasSamples bits signed p = record { sign = here.1.sign; few = here.1.few } in
     record {
       fits = here.0;
@@ -107,17 +107,35 @@ stripes_left {X} value bits signed p y z a b (s ∷ stripes) low h fits =
       samples = inr samples;
     }
 
--- The pixels of all stripes, put into an empty list, of which there are some.
-pub all_pixels : {X : Type 0} (value : X → ℤ) (bits : ℕ) (signed : Bool) (p : Picture) (a b : PixelRows X) → a.list.items ≡ [] → 0 < length b.list.items → WereTaken (TookPixels value bits signed) p p.y0 (p.y0 + p.height) a b → b.fits ≡ true
+-- no row of a picture is empty
+some_pixels : (p : Picture) → IsPicture p → ((p.y0 + p.height) - p.y0) * p.width * length p.planes ≡ 0 → ⊥
+some_pixels p is none =
+    let wide = is.frame.wide in
+    let high = is.frame.high in
+    let some = is.components.some in
+    let h : (p.y0 + p.height) - p.y0 ≡ p.height = omega arith in
+    positive p.height p.width (length p.planes) (omega (arith, high)) (omega (arith, wide)) some (ap (λ t. t * p.width * length p.planes) (sym h) ∙ none)
+  where
+    positive : (h w n : ℕ) → 1 ≤ h → 1 ≤ w → 1 ≤ n → h * w * n ≡ 0 → ⊥
+    positive h w n a b c e = grind arith
+
+-- The pixels of all stripes of a picture, put into an empty list.
+pub all_pixels : {X : Type 0} (value : X → ℤ) (bits : ℕ) (signed : Bool) (p : Picture) (a b : PixelRows X) → IsPicture p → a.list.items ≡ [] → WereTaken (TookPixels value bits signed) p p.y0 (p.y0 + p.height) a b → b.fits ≡ true
     → HasSamples bits signed p × HaveAllPixels value p b.list.items
-all_pixels {X} value bits signed p a b empty some taken fits =
+all_pixels {X} value bits signed p a b is_picture empty taken fits =
     let left = stripes_left value bits signed p p.y0 (p.y0 + p.height) a b taken.0 (omega arith) taken.1 fits in
     let is : b.list.items ≡ left.pixels = left.list ∙ ap (λ (xs : List X). xs ++ left.pixels) empty in
     let have = subst (λ (xs : List X). HaveAllPixels value p xs) (sym is) left.have in
     elim left.samples [
-      | inl none ↦ absurd (omega (arith, some, ap (λ (xs : List X). length xs) (is ∙ none)))
+      | inl none ↦ absurd (some_pixels p is_picture (sym left.have.count ∙ ap (λ (xs : List X). length xs) none))
       | inr samples ↦ (samples, have)
     ]
+
+-- Where the picture has such samples, all stripes had.
+fits_all : {X : Type 0} (value : X → ℤ) (bits : ℕ) (signed : Bool) (p : Picture) (y z : ℕ) (a b : PixelRows X) (stripes : List (ℕ × PixelRows X)) → AreTaken (TookPixels value bits signed) p y z a stripes b → a.fits ≡ true → HasSamples bits signed p → b.fits ≡ true
+fits_all {X} value bits signed p y z a b [] h fits has = subst (λ (x : PixelRows X). x.fits ≡ true) h.1 fits
+fits_all value bits signed p y z a b (s ∷ stripes) h fits has =
+    fits_all value bits signed p s.0 z s.1 b stripes h.3 (h.2.fits fits (record { sign = has.sign; few = has.few })) has
 
 -- ---- as calls give them
 
@@ -133,6 +151,13 @@ plane_long p c is few = (is.components.each c [] few).count
 count_of : {X : Type 0} (value : X → ℤ) (p : Picture) (pixels : List X) → HaveAllPixels value p pixels → length pixels ≡ p.width * p.height * length p.planes
 count_of value p pixels h = h.count ∙ ap (λ t. t * length p.planes) (all_rows p)
 
+-- Where not all had, or the pixels aren't so many, the picture has other samples.
+pub other_samples : {X : Type 0} (value : X → ℤ) (bits : ℕ) (signed : Bool) (p : Picture) (a b : PixelRows X) (n : ℕ) → IsPicture p → a.list.items ≡ [] → a.fits ≡ true → WereTaken (TookPixels value bits signed) p p.y0 (p.y0 + p.height) a b
+    → (b.fits ≡ true → length b.list.items ≡ n → ⊥) → HasSamples bits signed p → n ≡ p.width * p.height * length p.planes → ⊥
+other_samples value bits signed p a b n is empty fits taken other has count =
+    let all = fits_all value bits signed p p.y0 (p.y0 + p.height) a b taken.0 taken.1 fits has in
+    other all (count_of value p b.list.items (all_pixels value bits signed p a b is empty taken all).1 ∙ sym count)
+
 each_of : {X : Type 0} (value : X → ℤ) (p : Picture) (pixels : List X) (none : X) → IsPicture p → HaveAllPixels value p pixels → (c : ℕ) → c < length p.planes → (i : ℕ) → i < length (get_or p.planes c [])
     → value (get_or pixels (i * length p.planes + c) none) ≡ get_or (get_or p.planes c []) i (pos 0)
 each_of value p pixels none is h c few i less =
@@ -142,24 +167,26 @@ each_of value p pixels none is h c few i less =
 -- Unsigned pixels.
 pub unsigned_given : (bits : ℕ) (r : Result Picture Fault) (before after : List ℕ) (code : ℕ) → IfOk r IsPicture → GivesRows (λ (x : ℕ). pos x) bits false r before code after → GivesPixels bits r before code after
 unsigned_given bits (Err e) before after code is h = h
-unsigned_given bits (Ok p) before after code is h =
+unsigned_given bits (Ok p) before after code is (inl h) =
     let count = count_of (λ (x : ℕ). pos x) p after h.3 in
     inl (
       h.0,
       record { plain = h.1.sign; few = h.1.few; room = h.2 ∙ count },
       record { count = count; each = λ c few i less. each_of (λ (x : ℕ). pos x) p after 0 is h.3 c few i less },
     )
+unsigned_given bits (Ok p) before after code is (inr h) = inr (h.0, λ fits. h.1 (record { sign = fits.plain; few = fits.few }) fits.room, h.2)
 
 -- Signed ones.
 pub signed_given : (bits : ℕ) (r : Result Picture Fault) (before after : List ℤ) (code : ℕ) → IfOk r IsPicture → GivesRows (λ (x : ℤ). x) bits true r before code after → GivesSigned bits r before code after
 signed_given bits (Err e) before after code is h = h
-signed_given bits (Ok p) before after code is h =
+signed_given bits (Ok p) before after code is (inl h) =
     let count = count_of (λ (x : ℤ). x) p after h.3 in
     inl (
       h.0,
       record { signed = h.1.sign; few = h.1.few; room = h.2 ∙ count },
       record { count = count; each = λ c few i less. each_of (λ (x : ℤ). x) p after (pos 0) is h.3 c few i less },
     )
+signed_given bits (Ok p) before after code is (inr h) = inr (h.0, λ fits. h.1 (record { sign = fits.signed; few = fits.few }) fits.room, h.2)
 
 -- ---- as samples of one kind are put
 

@@ -4,7 +4,7 @@ use Rattle.std.specs.Global.{Vec}
 use Rattle.jk_math.specs.Answer.{Answers}
 use Rattle.jk_math.specs.Memory.{IsMemory}
 use Rattle.jk_math.specs.declared.fault.Fault.{Fault}
-use Rattle.jk_math.specs.declared.fault.Fault.TheVariants.{BadParameters, Shelf}
+use Rattle.jk_math.specs.declared.fault.Fault.TheVariants.{BadParameters}
 use Rattle.jk_math.specs.Picture.{Picture, IsPicture}
 use Rattle.jk_params.specs.declared.parameters.Parameters.{Parameters}
 use Rattle.jk_code.specs.Meaning.{Means}
@@ -33,12 +33,11 @@ pub record IsEncodedBy (p : Picture) (k : CallerCoding) (answer : Result (Vec �
   pub file : Answers (λ v. v.items) answer (written p parameters)
   pub means : IfOk answer (λ v. Means v.items 0 p)
 
--- The file of a picture that is written into memory, or the fault that stands in its place; or
--- Memory, or Shelf, where the file's growth was refused; or BadParameters of a picture outside the
--- profile, or of the coding.
+-- The file of a picture, or the fault that stands in its place; or Memory; or BadParameters of a
+-- picture outside the profile, or of the coding.
 abbrev pub IsEncodedFile : Picture → CallerCoding → Result (Vec ℕ) Fault → Type 0
 IsEncodedFile p k answer =
-    MatchResult answer (λ _. ⊥) (λ e. IsMemory e ⊎ (e ≡ Shelf))
+    MatchResult answer (λ _. ⊥) IsMemory
     ⊎ (((answer ≡ Err BadParameters) × (IsPicture p → IsKnownCoding k → ⊥)) ⊎ IsEncodedBy p k answer)
 
 -- parameters that say what a coding asks for, and the bytes of a picture's file with them, which

@@ -1,9 +1,9 @@
 -- Pixels of an image that comes in stripes of rows, one below the other.
-use Rattle.std.specs.Prelude.{◌≡◌, ◌≤◌, true, Bool, ℕ, ℤ, pos, ◌+◌, ◌*◌, ◌-◌, ◌<◌, List, [], ◌++◌, length, slice_index_or, Result, Ok, Err}
+use Rattle.std.specs.Prelude.{◌≡◌, ◌⊎◌, ◌≤◌, true, Bool, ℕ, ℤ, pos, ◌+◌, ◌*◌, ◌-◌, ◌<◌, List, [], ◌++◌, length, slice_index_or, Result, Ok, Err}
 use Rattle.jk_math.specs.declared.fault.Fault.{Fault}
 use Rattle.jk_math.specs.Picture.{Picture}
 use Rattle.jk_c.specs.declared.pixel_rows.PixelRows.{PixelRows}
-use Rattle.jk_c.specs.Codes.{done_code, code_of}
+use Rattle.jk_c.specs.Codes.{done_code, misfit_code, code_of}
 
 -- The picture's samples have so many bits at most, and are with a sign or without.
 pub record HasSamples (bits : ℕ) (signed : Bool) (p : Picture) : Type 0 where
@@ -23,17 +23,18 @@ abbrev pub HaveAllPixels : {X : Type 0} → (value : X → ℤ) → Picture → 
 HaveAllPixels value p pixels = HavePixels value p p.y0 (p.y0 + p.height) pixels
 
 -- Where all rows that came had such samples, those of the picture have, and its pixels are behind
--- the others.
-abbrev pub TookPixels : {X : Type 0} → (value : X → ℤ) → (bits : ℕ) → (signed : Bool) → PixelRows X → Picture → PixelRows X
-    → Type 0
-TookPixels {X} value bits signed a p b = b.fits ≡ true
-    → (a.fits ≡ true) × HasSamples bits signed p
-    × (pixels : List X) × (b.list.items ≡ a.list.items ++ pixels) × HaveAllPixels value p pixels
+-- the others; and all had, where those before had and the picture's have.
+pub record TookPixels {X : Type 0} (value : X → ℤ) (bits : ℕ) (signed : Bool) (a : PixelRows X) (p : Picture) (b : PixelRows X) : Type 0 where
+  pub taken : b.fits ≡ true → (a.fits ≡ true) × HasSamples bits signed p
+      × (pixels : List X) × (b.list.items ≡ a.list.items ++ pixels) × HaveAllPixels value p pixels
+  pub fits : a.fits ≡ true → HasSamples bits signed p → b.fits ≡ true
 
 -- What is given of a picture's rows, or of a fault in its place: the number of the fault; or the
--- picture has such samples, and its pixels are in the list.
+-- picture has such samples, and its pixels are in the list; or Misfit, where the list isn't for them.
 abbrev pub GivesRows : {X : Type 0} → (value : X → ℤ) → (bits : ℕ) → (signed : Bool) → Result Picture Fault → (before : List X)
     → (code : ℕ) → (after : List X) → Type 0
 GivesRows value bits signed (Err e) before code after = (code ≡ code_of e) × (after ≡ before)
 GivesRows value bits signed (Ok p) before code after =
-    (code ≡ done_code) × HasSamples bits signed p × (length before ≡ length after) × HaveAllPixels value p after
+    ((code ≡ done_code) × HasSamples bits signed p × (length before ≡ length after) × HaveAllPixels value p after)
+    ⊎ ((code ≡ misfit_code) × (HasSamples bits signed p → length before ≡ p.width * p.height * length p.planes → ⊥)
+    × (after ≡ before))

@@ -1,12 +1,10 @@
 //! What calls hand to their caller.
 
-ghost use Rattle.std.specs.Prelude.{◌≡◌, Ok, Err};
-ghost use Rattle.jk_math.specs.declared.fault.Fault.TheVariants.{Shelf};
+ghost use Rattle.std.specs.Prelude.{◌≡◌, Ok};
 ghost use Rattle.jk_c.specs.Answers.{GivesPixels, HandsOut, bytes_of, room};
-ghost use Rattle.jk_c.specs.Codes.{memory_code};
 ghost use Rattle.jk_c.specs.Signed.{GivesSigned};
 
-use crate::codes::{DONE, MEMORY, MISFIT, SHORT, code};
+use crate::codes::{DONE, MISFIT, SHORT, code};
 use crate::samples::{put_image_bytes, put_image_words};
 use crate::signed::{put_image_shorts, put_image_tinies};
 use jk_math::{Fault, Image};
@@ -96,22 +94,4 @@ pub(crate) fn hand_out(file: Result<Vec<u8>, Fault>, out: &mut [u8], made: &mut 
         Ok(bytes) => copy_out(&bytes, out, made),
         Err(fault) => code(fault),
     }
-}
-
-/// Hands out the bytes of a file that was written into memory, or tells the fault that stands in its
-/// place. A write that failed was a growth of memory.
-pub(crate) fn hand_out_written(
-    file: Result<Vec<u8>, Fault>,
-    out: &mut [u8],
-    made: &mut usize,
-) -> u32
-    ensures failed { file ≡ Err Shelf
-        → (result ≡ memory_code) × (room out.new made.new ≡ room out.old made.old) }
-    ensures other { (file ≡ Err Shelf → ⊥)
-        → HandsOut (bytes_of file) (room out.old made.old) result (room out.new made.new) }
-{
-    if let Err(Fault::Shelf) = &file {
-        return MEMORY;
-    }
-    hand_out(file, out, made)
 }

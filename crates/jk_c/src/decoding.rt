@@ -1,5 +1,4 @@
-//! Files decoded: row by row where that takes no longer, with the pixels beside the caller's and no
-//! plane of the whole image.
+//! Files decoded row by row, with the pixels beside the caller's and no plane of the whole image.
 
 ghost use Rattle.std.specs.Prelude.{◌≡◌, Ok};
 ghost use Rattle.jk_math.specs.Picture.{Picture};
@@ -10,9 +9,7 @@ ghost use Rattle.jk_c.specs.Codes.{done_code};
 ghost use Rattle.jk_c.specs.Pixels.{ArePixels};
 ghost use Rattle.jk_c.specs.Signed.{AreSignedPixels, GivesSignedOrMemory};
 
-use crate::answers::{give_bytes, give_shorts, give_tinies, give_words};
-use crate::pixel_rows::give_rows;
-use jk_code::decode;
+use crate::pixel_rows::give_pixels;
 use std::alloc::Global;
 
 /// The image that a file means at a reduction, pixel by pixel, as bytes: for unsigned samples of at
@@ -28,10 +25,7 @@ pub extern "C" fn jk_decode_u8(alloc: Global, file: &[u8], reduce: u32, pixels: 
     ensures only { (p : Picture) → Means file.now reduce p
         → GivesPixelsOrMemory 8 (Ok p) pixels.old result pixels.new }
 {
-    match give_rows(alloc, file, reduce, pixels) {
-        Some(told) => told,
-        None => give_bytes(decode(alloc, file, reduce), pixels),
-    }
+    give_pixels(alloc, file, reduce, pixels)
 }
 
 /// The image that a file means at a reduction, pixel by pixel, as words of two bytes: for unsigned
@@ -47,10 +41,7 @@ pub extern "C" fn jk_decode_u16(alloc: Global, file: &[u8], reduce: u32, pixels:
     ensures only { (p : Picture) → Means file.now reduce p
         → GivesPixelsOrMemory 16 (Ok p) pixels.old result pixels.new }
 {
-    match give_rows(alloc, file, reduce, pixels) {
-        Some(told) => told,
-        None => give_words(decode(alloc, file, reduce), pixels),
-    }
+    give_pixels(alloc, file, reduce, pixels)
 }
 
 /// The image that a file means at a reduction, pixel by pixel, as signed bytes: for signed samples of at most 8 bits.
@@ -66,10 +57,7 @@ pub extern "C" fn jk_decode_i8(alloc: Global, file: &[u8], reduce: u32, pixels: 
     ensures only { (p : Picture) → Means file.now reduce p
         → GivesSignedOrMemory 8 (Ok p) pixels.old result pixels.new }
 {
-    match give_rows(alloc, file, reduce, pixels) {
-        Some(told) => told,
-        None => give_tinies(decode(alloc, file, reduce), pixels),
-    }
+    give_pixels(alloc, file, reduce, pixels)
 }
 
 /// The image that a file means at a reduction, pixel by pixel, as signed words of two bytes: for signed samples.
@@ -85,8 +73,5 @@ pub extern "C" fn jk_decode_i16(alloc: Global, file: &[u8], reduce: u32, pixels:
     ensures only { (p : Picture) → Means file.now reduce p
         → GivesSignedOrMemory 16 (Ok p) pixels.old result pixels.new }
 {
-    match give_rows(alloc, file, reduce, pixels) {
-        Some(told) => told,
-        None => give_shorts(decode(alloc, file, reduce), pixels),
-    }
+    give_pixels(alloc, file, reduce, pixels)
 }

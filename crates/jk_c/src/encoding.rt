@@ -12,14 +12,13 @@ ghost use Rattle.jk_c.specs.Pictured.{pictured};
 ghost use Rattle.jk_c.specs.declared.coding.CallerCoding.{CallerCoding};
 ghost use Rattle.jk_c.specs.Signed.{IsKnownSignedFrame, IsAskedSigned, signed_picture_from};
 
-use crate::answers::hand_out_written;
+use crate::answers::hand_out;
 use crate::codes::{BAD_PARAMETERS, MISFIT};
 use crate::coding::{CallerCoding, parameters};
 use crate::frames::{CallerFrame, fills, is_known, is_known_signed, picture_frame};
 use crate::pixel_rows::Sample;
 use crate::pixel_supply::PixelSupply;
-use crate::stripes::stripe;
-use jk_code::{encode, encode_rows};
+use jk_code::encode_rows_to;
 use jk_math::Fault;
 use jk_params::{Parameters, PictureFrame};
 use std::alloc::Global;
@@ -27,25 +26,9 @@ use std::alloc::Global;
 /// How many rows are encoded at a time.
 const ROWS: u32 = 64;
 
-/// Images of fewer samples are encoded whole: their planes take 1 MiB at most.
-const FEW: u64 = 1 << 18;
-
-/// Images and tiles of fewer columns or rows are encoded whole.
-const NARROW: u32 = 128;
-
-/// Whether an image is encoded row by row. Of small ones, and of narrow ones and in narrow tiles, that
-/// takes longer than of the whole.
-fn suits_rows(frame: &PictureFrame, tile: Option<(u32, u32)>) -> bool {
-    let (width, height) = tile.unwrap_or((frame.width, frame.height));
-    let samples = (frame.width as u64 * frame.height as u64).saturating_mul(
-        frame.components as u64,
-    );
-    samples >= FEW && width.min(frame.width) >= NARROW && height.min(frame.height) >= NARROW
-}
-
-/// The file of an image of all these pixels, which is encoded row by row.
+/// The file of an image of all these pixels, whose rows are given one stripe below the other.
 ///
-/// BadParameters: the image is outside the profile; Shelf: the file couldn't grow.
+/// BadParameters: the image is outside the profile.
 fn file_by_rows<T: Sample>(
     alloc: Global,
     frame: &PictureFrame,
@@ -63,31 +46,13 @@ fn file_by_rows<T: Sample>(
         given: 0,
     };
     let mut file = Vec::new(alloc);
-    encode_rows(alloc, frame, parameters, ROWS, &mut rows, &mut file)?;
+    encode_rows_to(alloc, frame, parameters, ROWS, &mut rows, &mut file)?;
     Ok(file)
-}
-
-/// The file of an image of all these pixels, which is encoded whole.
-///
-/// BadParameters: the image is outside the profile.
-fn file_of_whole<T: Sample>(
-    alloc: Global,
-    frame: &PictureFrame,
-    pixels: &[T],
-    parameters: &Parameters,
-) -> Result<Vec<u8>, Fault>
-    requires known { IsPictureFrame frame.now }
-    requires whole { length pixels.now ≡ frame.now.width * frame.now.height * frame.now.components }
-    ensures { (k : CallerCoding) → AreParameters k parameters.now → IsKnownCoding k
-        → IsEncodedFile (pictured frame.now (map T.value pixels.now)) k result }
-{
-    let image = stripe(alloc, frame, pixels, 0, frame.height)?;
-    encode(alloc, &image, parameters)
 }
 
 /// The file of an image of all these pixels.
 ///
-/// BadParameters: the image or the coding is outside the profile; Shelf: the file couldn't grow.
+/// BadParameters: the image or the coding is outside the profile.
 fn file_of<T: Sample>(
     alloc: Global,
     frame: &CallerFrame,
@@ -101,11 +66,7 @@ fn file_of<T: Sample>(
     let (_, signed) = T::room();
     let frame = picture_frame(frame, signed)?;
     let parameters = parameters(alloc, coding)?;
-    if suits_rows(&frame, parameters.tile) {
-        file_by_rows(alloc, &frame, pixels, &parameters)
-    } else {
-        file_of_whole(alloc, &frame, pixels, &parameters)
-    }
+    file_by_rows(alloc, &frame, pixels, &parameters)
 }
 
 /// Hands out the file of an image of all these pixels, or tells the fault that stands in its place.
@@ -122,7 +83,7 @@ fn encode_pixels<T: Sample>(
     ensures { IsEncoded (pictured (framed frame.now T.signed) (map T.value pixels.now)) coding.now
         (room out.old made.old) result (room out.new made.new) }
 {
-    hand_out_written(file_of(alloc, frame, pixels, coding), out, made)
+    hand_out(file_of(alloc, frame, pixels, coding), out, made)
 }
 
 /// The file of an image of at most 8 bits, whose samples lie pixel by pixel in bytes, as

@@ -1,18 +1,18 @@
 //! Images that are decoded row by row, pixel by pixel: no image is whole in planes.
 
-ghost use Rattle.std.specs.Prelude.{◌≡◌, ◌≤◌, length, take, drop, None, Ok, Result, IsTrue, IfOk, IfErr, IfSome};
+ghost use Rattle.std.specs.Prelude.{◌≡◌, ◌≤◌, ◌+◌, ◌*◌, length, take, drop, None, Ok, Result, IsTrue, IfOk, IfErr, IfSome};
 ghost use Rattle.jk_math.specs.Answer.{Answers, Refuses};
 ghost use Rattle.jk_math.specs.Memory.{IsMemory};
-ghost use Rattle.jk_math.specs.Picture.{Picture};
+ghost use Rattle.jk_math.specs.Picture.{Picture, IsPicture};
 ghost use Rattle.jk_math.specs.declared.fault.Fault.{Fault};
 ghost use Rattle.jk_code.specs.Meaning.{Means};
 ghost use Rattle.jk_code.specs.MeaningReading.{meaning_at};
 ghost use Rattle.jk_c.specs.PixelRows.{HasSamples, HaveAllPixels, GivesRows};
 
-use crate::codes::{DONE, code};
+use crate::codes::{DONE, MISFIT, code};
 use crate::samples::{put_image_bytes, put_image_words};
 use crate::signed::{put_image_shorts, put_image_tinies};
-use jk_code::{Rows, decode_rows, frame, suits_rows};
+use jk_code::{ImageFrame, Rows, decode_rows, frame, judge_file};
 use jk_math::{Fault, Image};
 use std::alloc::Global;
 
@@ -21,7 +21,8 @@ const ROWS: u32 = 64;
 
 /// A sample in the caller's memory.
 pub(crate) trait Sample: Copy {
-    ghost use Rattle.std.specs.Prelude.{◌≡◌, ℕ, ℤ, pos, negsuc, ◌≤ℤ◌, Bool, IsTrue, length};
+    ghost use Rattle.std.specs.Prelude.{◌≡◌, ℕ, ℤ, pos, negsuc, ◌≤ℤ◌, ◌*◌, Bool, IsTrue, length};
+    ghost use Rattle.jk_math.specs.Picture.{IsPicture};
     ghost use Rattle.jk_c.specs.PixelRows.{HasSamples, HaveAllPixels};
 
     // The number that it stands for.
@@ -36,6 +37,7 @@ pub(crate) trait Sample: Copy {
 
     /// How many bits it has room for, and whether these are with a sign.
     fn room() -> (u8, bool)
+        ensures bits { result.0 ≡ bits }
         ensures sign { result.1 ≡ signed };
 
     /// The number that it stands for.
@@ -47,7 +49,10 @@ pub(crate) trait Sample: Copy {
     fn put(image: &Image, pixels: &mut [Self]) -> bool
         ensures long { length pixels.new ≡ length pixels.old }
         ensures samples { IsTrue result → HasSamples bits signed image.now }
-        ensures put { IsTrue result → HaveAllPixels value image.now pixels.new };
+        ensures put { IsTrue result → HaveAllPixels value image.now pixels.new }
+        ensures fits { HasSamples bits signed image.now
+            → length pixels.old ≡ image.now.width * image.now.height * length image.now.planes → IsTrue result }
+        ensures profile { IsPicture image.now };
 }
 
 impl Sample for u8 {
@@ -172,6 +177,9 @@ fn put_behind<T: Sample>(image: &Image, from: usize, pixels: &mut [T]) -> bool
     ensures front { take from pixels.new ≡ take from pixels.old }
     ensures samples { IsTrue result → HasSamples T.bits T.signed image.now }
     ensures put { IsTrue result → HaveAllPixels T.value image.now (drop from pixels.new) }
+    ensures fits { HasSamples T.bits T.signed image.now
+        → length pixels.old ≡ from + image.now.width * image.now.height * length image.now.planes → IsTrue result }
+    ensures profile { IsPicture image.now }
 {
     T::put(image, &mut pixels[from..])
 }
@@ -181,7 +189,9 @@ impl<T: Sample> Rows for PixelRows<T> {
 
     ghost took = { TookPixels T.value T.bits T.signed };
 
-    fn take(&mut self, alloc: Global, rows: Image) -> Result<(), Fault> {
+    ghost refused = { λ _ _ _ _. ⊥ };
+
+    fn take(&mut self, _alloc: Global, rows: Image) -> Result<(), Fault> {
         let from = self.list.len();
         let area = rows.width() as usize * rows.height() as usize;
         let count = area * rows.planes().len();
@@ -192,75 +202,77 @@ impl<T: Sample> Rows for PixelRows<T> {
     }
 }
 
-/// Whether an image has just so many samples, and each has a place.
+/// Whether an image of this frame has just so many samples, each of which has a place among samples of
+/// so many bits, with a sign or without.
+fn has_place(frame: &ImageFrame, bits: u8, signed: bool, count: usize) -> bool
+    ensures { frame.now.depth ≤ bits → frame.now.signed ≡ signed
+        → count ≡ frame.now.width * frame.now.height * frame.now.components → IsTrue result }
+{
+    let area = frame.width as u64 * frame.height as u64;
+    let samples = area.saturating_mul(frame.components as u64);
+    frame.depth <= bits && frame.signed == signed && samples == count as u64
+}
+
+/// Whether the image of a file may have just so many samples, each of which has a place.
 fn suits<T: Sample>(alloc: Global, file: &[u8], reduce: u32, count: usize) -> Result<bool, Fault>
+    ensures place { IfOk result (λ suits. (p : Picture) → Means file.now reduce p → HasSamples T.bits T.signed p
+        → count ≡ p.width * p.height * length p.planes → IsTrue suits) }
     ensures memory { IfErr result IsMemory }
 {
     let (bits, signed) = T::room();
     match frame(alloc, file, reduce) {
-        Ok(frame) => {
-            let area = frame.width as u64 * frame.height as u64;
-            Ok(
-                frame.depth <= bits
-                    && frame.signed == signed
-                    && area.saturating_mul(frame.components as u64) == count as u64,
-            )
-        }
+        Ok(frame) => Ok(has_place(&frame, bits, signed, count)),
         Err(Fault::Memory(refused)) => Err(Fault::Memory(refused)),
-        Err(_) => Ok(false),
+        // The error of the file is reported when it is decoded.
+        Err(_) => Ok(true),
     }
 }
 
-/// The pixels of an image of so many samples that is decoded row by row. None where it had better be
-/// decoded whole.
+/// The pixels of an image of so many samples that is decoded row by row; none, where it has other
+/// samples.
 pub(crate) fn pixels_by_rows<T: Sample>(
     alloc: Global,
     file: &[u8],
     reduce: u32,
     count: usize,
 ) -> Result<Option<Vec<T>>, Fault>
-    ensures given { IfOk result (λ found. IfSome found (λ v. (length v.items ≡ count)
-        × (p : Picture) × (meaning_at file.now reduce ≡ Ok p) × Means file.now reduce p
-        × HasSamples T.bits T.signed p × HaveAllPixels T.value p v.items)) }
+    ensures given { IfOk result (λ found. (p : Picture) × (meaning_at file.now reduce ≡ Ok p) × Means file.now reduce p
+        × IfSome found (λ v. (length v.items ≡ count) × HasSamples T.bits T.signed p × HaveAllPixels T.value p v.items)
+        × (found ≡ None → HasSamples T.bits T.signed p → count ≡ p.width * p.height * length p.planes → ⊥)) }
     ensures err { IfErr result (λ e. Refuses e (meaning_at file.now reduce)) }
 {
-    if count == 0 || !suits_rows(file, reduce) || !suits::<T>(alloc, file, reduce, count)? {
+    if !suits::<T>(alloc, file, reduce, count)? {
+        judge_file(alloc, file, reduce)?;
         return Ok(None);
     }
     let mut rows = PixelRows {
         list: Vec::with_capacity(alloc, count)?,
         fits: true,
     };
-    match decode_rows(alloc, file, reduce, ROWS, &mut rows) {
-        Ok(()) => {}
-        Err(Fault::Shelf) => return Ok(None),
-        Err(fault) => return Err(fault),
-    }
+    decode_rows(alloc, file, reduce, ROWS, &mut rows)?;
     if rows.fits && rows.list.len() == count {
         return Ok(Some(rows.list));
     }
     Ok(None)
 }
 
-/// Gives the pixels of an image that is decoded row by row, or tells its file's fault. None where it
-/// had better be decoded whole.
-pub(crate) fn give_rows<T: Sample>(
+/// Gives the pixels of the image that a file means, or tells the fault that stands in their place.
+pub(crate) fn give_pixels<T: Sample>(
     alloc: Global,
     file: &[u8],
     reduce: u32,
     pixels: &mut [T],
-) -> Option<u32>
-    ensures given { IfSome result (λ told. (r : Result Picture Fault)
+) -> u32
+    ensures { (r : Result Picture Fault)
         × Answers (λ p. p) r (meaning_at file.now reduce) × IfOk r (Means file.now reduce)
-        × GivesRows T.value T.bits T.signed r pixels.old told pixels.new) }
-    ensures kept { result ≡ None → pixels.new ≡ pixels.old }
+        × GivesRows T.value T.bits T.signed r pixels.old result pixels.new }
 {
     match pixels_by_rows::<T>(alloc, file, reduce, pixels.len()) {
         Ok(Some(list)) => {
             pixels.copy_from_slice(&list);
-            Some(DONE)
+            DONE
         }
-        Ok(None) => None,
-        Err(fault) => Some(code(fault)),
+        Ok(None) => MISFIT,
+        Err(fault) => code(fault),
     }
 }

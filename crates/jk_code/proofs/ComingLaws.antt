@@ -13,7 +13,7 @@ use Rattle.jk_params.specs.Profile.{siz_for, IsWrittenFor}
 use Rattle.jk_code.specs.Made.{rows_of}
 use Rattle.jk_code.specs.RowsWritten.{IsStripe, sample_on_grid}
 use Rattle.jk_tile.specs.encoding.Strips.{IsFrame}
-use Rattle.jk_tile.specs.encoding.FallingTiles.{IsStripeOf, GivesTile, AreTileSixteen}
+use Rattle.jk_tile.specs.encoding.FallingTiles.{HasRowsFor, GivesTile, AreTileSixteen}
 use Rattle.jk_tile.specs.encoding.TilesFrom.{tile_lists}
 use Rattle.jk_tile.specs.declared.encoding.fallen_tile.FallenTile.{FallenTile}
 use Rattle.jk_code.specs.declared.coming.ComingImage.{ComingImage}
@@ -41,28 +41,30 @@ component_framed s t is lt =
 pub coming_written : (s : ComingImage) (p : Picture) → IsComing s → frame_of p ≡ s.frame → IsWrittenBy s.parameters.now p
 coming_written s p is same = written_by_frame s.parameters.now p (subst (λ (f : PictureFrame). IsWrittenFor s.parameters.now f) (sym same) is.written)
 
-columns : (z : Siz) (t : ℕ) → ((tile_area z t).x0 ≡ max (z.tile_x0 + t % tiles_across z * z.tile_width) z.x0) × ((tile_area z t).x1 ≡ min (z.tile_x0 + (t % tiles_across z + 1) * z.tile_width) z.x1)
+pub columns : (z : Siz) (t : ℕ) → ((tile_area z t).x0 ≡ max (z.tile_x0 + t % tiles_across z * z.tile_width) z.x0) × ((tile_area z t).x1 ≡ min (z.tile_x0 + (t % tiles_across z + 1) * z.tile_width) z.x1)
 unfolding tile_area
 columns z t = (refl, refl)
 
 -- what a tile has of a stripe
-pub stripe_of_tile : (s : ComingImage) (t y : ℕ) (v : Picture) → IsStripe s.frame v.y0 (v.y0 + v.height) v → v.y0 ≡ y → v.y0 + v.height ≤ (area_of_coming s t).y1 → IsStripeOf (component_of s t) y v
-stripe_of_tile s t y v stripe next lower =
+pub stripe_of_tile : (s : ComingImage) (t y e : ℕ) (v : Picture) → IsStripe s.frame v.y0 (v.y0 + v.height) v → v.y0 ≡ y → e ≡ v.y0 + v.height → e ≤ (area_of_coming s t).y1 → HasRowsFor (component_of s t) y e v
+stripe_of_tile s t y e v stripe next end lower =
     let c = columns (siz_for s.frame s.parameters.now) t in
     let x0 = ap (λ (f : PictureFrame). f.x0) stripe in
     let width = ap (λ (f : PictureFrame). f.width) stripe in
-    record { left = omega (arith, c.0, x0); right = omega (arith, c.1, x0, width); next = next; lower = lower }
+    record { left = omega (arith, c.0, x0); right = omega (arith, c.1, x0, width); upper = omega (arith, next); order = omega (arith, next, end); lower = omega (arith, end); inside = lower }
 
-pub stripe_gives : (s : ComingImage) (t : ℕ) (p v : Picture) → IsComing s → frame_of p ≡ s.frame → IsStripe s.frame v.y0 (v.y0 + v.height) v → v ≡ rows_of p v.y0 (v.y0 + v.height)
-    → GivesTile (component_of s t) s.parameters.now.colour v (tile_value p s.parameters.now.colour)
-stripe_gives s t p v is same stripe rows c x y lt within =
+pub stripe_gives : (s : ComingImage) (t from e : ℕ) (p v : Picture) → IsComing s → frame_of p ≡ s.frame → IsStripe s.frame v.y0 (v.y0 + v.height) v → v ≡ rows_of p v.y0 (v.y0 + v.height) → v.y0 ≡ from → e ≡ v.y0 + v.height
+    → GivesTile (component_of s t) s.parameters.now.colour v from e (tile_value p s.parameters.now.colour)
+stripe_gives s t from e p v is same stripe rows start end c x y lt within =
     let a = columns (siz_for s.frame s.parameters.now) t in
     let all = stripe ∙ ap (λ (f : PictureFrame). let r : PictureFrame = record f { y0 = v.y0; height = v.y0 + v.height - v.y0 } in r) (sym same) in
     let count : length v.planes ≡ length p.planes = ap (λ (f : PictureFrame). f.components) all in
     let many : length v.planes ≡ s.frame.components = ap (λ (f : PictureFrame). f.components) stripe in
     let x0 : p.x0 ≡ s.frame.x0 = ap (λ (f : PictureFrame). f.x0) same in
     let width : p.width ≡ s.frame.width = ap (λ (f : PictureFrame). f.width) same in
-    let left = within.left in let right = within.right in let upper = within.upper in let lower = within.lower in
+    let left = within.left in let right = within.right in let up = within.upper in let down = within.lower in
+    let upper : v.y0 ≤ y = omega (arith, up, start) in
+    let lower : y < v.y0 + v.height = omega (arith, down, end) in
     value_same p v s.parameters.now.colour c x y (ap (λ (f : PictureFrame). f.depth) all) (ap (λ (f : PictureFrame). f.signed) all) (λ colour. (let three = is.written.cod.colour colour in omega (arith, three, many))) lt (λ i less.
     ap (λ (u : Picture). sample_on_grid u i x y) rows
     ∙ rows_value p v.y0 (v.y0 + v.height) i x y (omega (arith, less, count)) (omega (arith, a.0, x0, left)) (omega (arith, a.1, x0, width, right)) upper lower)

@@ -22,9 +22,7 @@ pub mod BeginningLaws
 pub mod SendingLaws
 pub mod ViewSteps
 pub mod ViewAgain
-pub mod OneTile
 pub mod StripeLaws
-pub mod MadeLaws
 pub mod StripeRows
 pub mod Laws
 pub mod TileRowing
@@ -33,7 +31,11 @@ pub mod RowLaws
 pub mod ReadLaws
 pub mod WalkLaws
 pub mod PictureRows
+pub mod ImageLaws
+pub mod ImageTileLaws
 pub mod EntriesKept
 pub mod NeedLaws
 pub mod ComingLaws
 pub mod ComingWalkLaws
+pub mod KeptLaws
+pub mod Refusals

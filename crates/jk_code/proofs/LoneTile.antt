@@ -1,13 +1,10 @@
 -- A stripe of which the only tile of its row has all: the tile's planes are those of the stripe.
-use Rattle.std.proofs.Common.{◌≡◌, ℕ, ◌+◌, ◌<◌, List, [], get_or, length, Ok, ℤ, sym, ap, subst, ◌∙◌, arith}
+use Rattle.std.proofs.Common.{◌≡◌, ℕ, ◌+◌, ◌<◌, List, [], get_or, length, ℤ, ap, subst, ◌∙◌, arith}
 use Rattle.std.specs.Global.{Vec}
 use Rattle.jk_math.specs.Lists.{lists_of}
-use Rattle.jk_math.specs.Raster.{places_of}
 use Rattle.jk_math.specs.declared.rect.Rect.{Rect}
 use Rattle.jk_math.proofs.Laws.{raster_length}
-use Rattle.jk_marks.specs.Siz.{tiles_across, tile_count}
-use Rattle.jk_geom.specs.Rectangles.{IsWithin}
-use Rattle.jk_walk.specs.WalkReading.{packets_at}
+use Rattle.jk_marks.specs.Siz.{tiles_across}
 use Rattle.jk_tile.specs.Filling.{IsPartOf}
 use Rattle.jk_tile.specs.TileMeaning.{shown_area}
 use Rattle.jk_tile.specs.decoding.TileReading.{component_samples}

@@ -59,9 +59,6 @@ within_part part area x y is h =
     let hl = h.left in let hr = h.right in let hu = h.upper in let hd = h.lower in
     record { left = omega (arith, hl, is.left); right = omega (arith, hr, is.right); upper = omega (arith, hu, is.upper); lower = omega (arith, hd, is.lower) }
 
-pub own_part : (part area : Rect) → IsPartOf part area → IsPartOf part part
-own_part part area is = record { left = omega arith; across = is.across; right = omega arith; upper = omega arith; down = is.down; lower = omega arith }
-
 -- what is put is the samples
 pub tile_agrees : (bytes : List ℕ) (h : Headers) (d t c : ℕ) (part : Rect) (places : List PacketPlace) (values : List ℤ) → IsSiz h.siz → t < tile_count h.siz → packets_at bytes h t ≡ Ok places → IsPartOf part (shown_area h.siz t d)
     → values ≡ raster part (component_samples bytes h t d places c) → Agrees part values (sample_of_tiles bytes h d c)
@@ -69,15 +66,6 @@ tile_agrees bytes h d t c part places values is lt read inside e x y within =
     let holds : TileHolds h.siz d t x y = record { tile = lt; place = within_part part (shown_area h.siz t d) x y inside within } in
     ap (λ (l : List ℤ). plane_at part l x y) e
     ∙ raster_at part (component_samples bytes h t d places c) x y (record { left = within.left; right = within.right; upper = within.upper; lower = within.lower })
-    ∙ sym (ap (λ (r : Result (List PacketPlace) Fault). component_samples bytes h t d (places_or r) c x y) read) ∙ sym (tile_value bytes h d t c x y is holds)
-
--- of the whole tile
-own_agrees : (bytes : List ℕ) (h : Headers) (d t c : ℕ) (places : List PacketPlace) (values : List ℤ) → IsSiz h.siz → t < tile_count h.siz → packets_at bytes h t ≡ Ok places
-    → values ≡ raster (shown_area h.siz t d) (component_samples bytes h t d places c) → Agrees (shown_area h.siz t d) values (sample_of_tiles bytes h d c)
-own_agrees bytes h d t c places values is lt read e x y within =
-    let holds : TileHolds h.siz d t x y = record { tile = lt; place = within } in
-    ap (λ (l : List ℤ). plane_at (shown_area h.siz t d) l x y) e
-    ∙ raster_at (shown_area h.siz t d) (component_samples bytes h t d places c) x y (record { left = within.left; right = within.right; upper = within.upper; lower = within.lower })
     ∙ sym (ap (λ (r : Result (List PacketPlace) Fault). component_samples bytes h t d (places_or r) c x y) read) ∙ sym (tile_value bytes h d t c x y is holds)
 
 -- plane c of a part
@@ -98,81 +86,6 @@ pub shown_vector : (bytes : List ℕ) (h : Headers) (d t c : ℕ) (part : Rect) 
     → plane.items ≡ raster part (component_samples bytes h t d places c)
 shown_vector bytes h d t c part places planes plane e lt is =
     vector_items planes c plane (let n = shown_vectors bytes h d t part places planes e in omega (arith, lt, n)) is ∙ shown_plane bytes h d t c part places (lists_of planes) e lt
-
--- what is tested of a tile
-pub tile_due : (bytes : List ℕ) (h : Headers) (d t : ℕ) (places : List PacketPlace) → packets_at bytes h t ≡ Ok places → tile_planes_at bytes h t d (places_at bytes h t) ≡ tile_planes_at bytes h t d places
-tile_due bytes h d t places read = ap (λ (r : Result (List PacketPlace) Fault). tile_planes_at bytes h t d (places_or r)) read
-
--- ---- a tile that is alone
-
--- it has the whole image
-one_part : (x side : ℕ) → 0 < side → (x + side - 1) / side ≤ 1 → x ≤ side
-one_part x side some le =
-    let n = x + side - 1 in
-    let whole : n / side * side + n % side ≡ n = div-add-mod' n side in
-    let rest = mod_below n side some in
-    let few : n / side * side ≤ 1 * side = mul-le-mul_right side le in
-    omega (arith, whole, rest, few)
-
-only : (a b : ℕ) → a * b ≡ 1 → (a ≡ 1) × (b ≡ 1)
-only a b e = grind arith
-
--- in one direction
-one_side : (first side start end p : ℕ) → first ≤ start → p ≡ 0 → end - first ≤ side → (max (first + p * side) start ≡ start) × (min (first + (p + 1) * side) end ≡ end)
-one_side first side start end p le none few =
-    (ap (λ k. max (first + k * side) start) none ∙ omega (arith, le), ap (λ k. min (first + (k + 1) * side) end) none ∙ omega (arith, few))
-
-pub same_rect : (a b : Rect) → a.x0 ≡ b.x0 → a.y0 ≡ b.y0 → a.x1 ≡ b.x1 → a.y1 ≡ b.y1 → a ≡ b
-same_rect a b left upper right lower =
-    ap (λ k. record { x0 = k; y0 = a.y0; x1 = a.x1; y1 = a.y1 }) left ∙ ap (λ k. record { x0 = b.x0; y0 = k; x1 = a.x1; y1 = a.y1 }) upper
-    ∙ ap (λ k. record { x0 = b.x0; y0 = b.y0; x1 = k; y1 = a.y1 }) right ∙ ap (λ k. record { x0 = b.x0; y0 = b.y0; x1 = b.x1; y1 = k }) lower
-
-one_tile : (s : Siz) → IsSiz s → tile_count s ≡ 1 → tile_area s 0 ≡ image_area s
-unfolding tile_area
-one_tile s is one =
-    let sides = only (tiles_across s) (tiles_down s) one in
-    let column = mod_below 0 (tiles_across s) (omega (arith, sides.0)) in
-    let row = div_below 0 (tiles_across s) (tiles_down s) (omega (arith, sides.0)) (omega (arith, one)) in
-    let across = one_side s.tile_x0 s.tile_width s.x0 s.x1 (0 % tiles_across s) is.tile_left (omega (arith, column, sides.0)) (one_part (s.x1 - s.tile_x0) s.tile_width is.tile_wide (omega (arith, sides.0))) in
-    let down = one_side s.tile_y0 s.tile_height s.y0 s.y1 (0 / tiles_across s) is.tile_upper (omega (arith, row, sides.1)) (one_part (s.y1 - s.tile_y0) s.tile_height is.tile_high (omega (arith, sides.1))) in
-    same_rect (tile_area s 0) (image_area s) across.0 down.0 across.1 down.1
-
--- so what is shown of it is the reduced image
-pub one_frame : (h : Headers) (d : ℕ) → IsSiz h.siz → tile_count h.siz ≡ 1 → shown_area h.siz 0 d ≡ frame_of h d
-one_frame h d is one = ap (λ (a : Rect). resolution_area a d 0) (one_tile h.siz is one)
-
-pub one_shown : (bytes : List ℕ) (h : Headers) (d : ℕ) (places : List PacketPlace) (planes : List (List ℤ)) → IsSiz h.siz → tile_count h.siz ≡ 1 → packets_at bytes h 0 ≡ Ok places → tile_planes_at bytes h 0 d places ≡ Ok planes
-    → planes ≡ planes_of_tiles bytes h d (frame_of h d)
-one_shown bytes h d places planes is one read e =
-    let f : ℕ → List ℤ = λ c. raster (frame_of h d) (sample_of_tiles bytes h d c) in
-    let lt : 0 < tile_count h.siz = omega (arith, one) in
-    let area = one_frame h d is one in
-    let lists = (tile_tested bytes h 0 d places planes e).1 in
-    let count = shown_count bytes h d 0 (shown_area h.siz 0 d) places planes lists in
-    ext_get_or [] planes (planes_of_tiles bytes h d (frame_of h d)) (count ∙ sym (length-map-range_with_len f 0 h.siz.components)) (λ c less.
-    let few : c < h.siz.components = omega (arith, less, count) in
-    let plane = shown_plane bytes h d 0 c (shown_area h.siz 0 d) places planes lists few in
-    let agrees = own_agrees bytes h d 0 c places (get_or planes c []) is lt read plane in
-    let long = ap (λ (l : List ℤ). length l) plane ∙ raster_length (shown_area h.siz 0 d) (component_samples bytes h 0 d places c) in
-    subst (λ (a : Rect). get_or planes c [] ≡ raster a (sample_of_tiles bytes h d c)) area
-    (raster_is (shown_area h.siz 0 d) (get_or planes c []) (sample_of_tiles bytes h d c) long (λ x y place.
-    agrees x y (record { left = place.left; right = place.right; upper = place.upper; lower = place.lower })))
-    ∙ sym (get_or-map-range_with_len f 0 h.siz.components c c [] few (omega arith)))
-
--- what is tested of it
-pub one_answers : (bytes : List ℕ) (h : Headers) (d : ℕ) (places : List PacketPlace) (r : Result (Vec (Vec ℤ)) Fault) → packets_at bytes h 0 ≡ Ok places → Answers (λ v. lists_of v.items) r (tile_planes_at bytes h 0 d places)
-    → Answers (λ _. tt) r (tiles_tested bytes h d 1)
-one_answers bytes h d places (Ok v) read a =
-    each_more 0 (λ t. tested (tile_planes_at bytes h t d (places_at bytes h t))) (each_none _) (tested_ok (tile_planes_at bytes h 0 d (places_at bytes h 0)) (lists_of v.items) (tile_due bytes h d 0 places read ∙ a))
-one_answers bytes h d places (Err e) read a =
-    refuses_on e (tile_planes_at bytes h 0 d places) (tiles_tested bytes h d 1) a
-    (λ is. each_fails 1 0 (λ t. tested (tile_planes_at bytes h t d (places_at bytes h t))) e (lit< tt) (each_none _) (tested_err (tile_planes_at bytes h 0 d (places_at bytes h 0)) e (tile_due bytes h d 0 places read ∙ is)))
-
--- what is given
-pub one_given : (bytes : List ℕ) (h : Headers) (d : ℕ) (places : List PacketPlace) (r : Result (Vec (Vec ℤ)) Fault) → IsSiz h.siz → tile_count h.siz ≡ 1 → packets_at bytes h 0 ≡ Ok places
-    → Answers (λ v. lists_of v.items) r (tile_planes_at bytes h 0 d places) → IfOk r (λ v. lists_of v.items ≡ planes_of_tiles bytes h d (frame_of h d))
-one_given bytes h d places (Ok v) is one read a = one_shown bytes h d places (lists_of v.items) is one read a
-one_given bytes h d places (Err e) is one read a = tt
 
 -- ---- one plane more
 

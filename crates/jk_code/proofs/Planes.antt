@@ -66,8 +66,3 @@ tiles_are_picture bytes h d a is frame =
             (record { count = raster_length a (sample_of_tiles bytes h d c) ∙ turned; range = raster_range a (sample_of_tiles bytes h d c) h.siz (λ x y. pixel_range _ h.siz _ c is.some_bits) });
       };
     }
-
--- and so is the one of planes that are those of all tiles
-pub tiles_made : (bytes : List ℕ) (h : Headers) (d : ℕ) (a : Rect) (planes : List (Vec ℤ)) → IsSiz h.siz → HasFrame a → lists_of planes ≡ planes_of_tiles bytes h d a
-    → IsPicture (picture_with h.siz a (lists_of planes))
-tiles_made bytes h d a planes is frame e = subst IsPicture (sym (ap (picture_with h.siz a) e)) (tiles_are_picture bytes h d a is frame)

@@ -18,12 +18,12 @@ use Rattle.jk_rows.proofs.Laws.{no_fault_in}
 use Rattle.jk_code.specs.Made.{rows_of}
 use Rattle.jk_code.specs.MeaningReading.{places_or, places_at, packets_tested, tiles_tested, reduction_at, picture_with, planes_of_tiles, picture_at}
 use Rattle.jk_code.specs.Sources.{ImageSource, IsImageSource}
-use Rattle.jk_code.specs.Rows.{AreTaken, WereTaken, picture_of, area_of_tile, part_of_stripe, tile_source, HasFaultAt}
+use Rattle.jk_code.specs.Rows.{AreTaken, WereTaken, WereRefused, picture_of, area_of_tile, part_of_stripe, tile_source, HasFaultAt}
 use Rattle.jk_code.specs.Tiles.{IsPartSeen, ShowsTileAt}
 use Rattle.jk_tile.specs.Filling.{IsPartOf}
 use Rattle.jk_code.proofs.Planes.{tiles_are_picture}
 use Rattle.jk_code.proofs.MeaningLaws.{picture_by}
-use Rattle.jk_code.proofs.MadeLaws.{part_frame, rows_are}
+use Rattle.jk_code.proofs.StripeLaws.{part_frame, rows_are}
 use Rattle.jk_code.proofs.Placing.{tile_part}
 use Rattle.jk_code.proofs.TileRowing.{some_across, row_whole, row_holds, beside, first_shown, next_shown, last_shown}
 
@@ -41,6 +41,26 @@ taken_more took p y z w from mid to le first second = (first.0 ++ second.0, afte
 
 pub taken_one : {A : Type 0} (took : A → Picture → A → Type 0) (p : Picture) (y z : ℕ) (from to : A) → y < z → took from (rows_of p y z) to → WereTaken took p y z from to
 taken_one took p y z from to lt t = ((z, to) ∷ [], (lt, omega arith, t, (refl, refl)))
+
+-- rows that were refused behind others that were taken
+pub refused_later : {A : Type 0} (took : A → Picture → A → Type 0) (refused : A → Picture → Fault → A → Type 0) (p : Picture) (y x z : ℕ) (from mid to : A) (e : Fault) → y ≤ x → WereTaken took p y x from mid → WereRefused took refused p x z mid to e → WereRefused took refused p y z from to e
+refused_later took refused p y x z from mid to e le taken why =
+    let low = why.low in
+    record {
+      next = why.next;
+      last = why.last;
+      before = why.before;
+      low = omega (arith, le, low);
+      more = why.more;
+      high = why.high;
+      taken = taken_more took p y x why.next from mid why.before low taken why.taken;
+      why = why.why;
+    }
+
+-- the first of them
+pub refused_here : {A : Type 0} (took : A → Picture → A → Type 0) (refused : A → Picture → Fault → A → Type 0) (p : Picture) (y w z : ℕ) (from to : A) (e : Fault) → y < w → w ≤ z → refused from (rows_of p y w) e to → WereRefused took refused p y z from to e
+refused_here took refused p y w z from to e lt high why =
+    record { next = y; last = w; before = from; low = omega arith; more = lt; high = high; taken = none_taken took p y from; why = why }
 
 -- ---- faults
 

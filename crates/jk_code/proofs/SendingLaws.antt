@@ -1,7 +1,6 @@
 -- Laws of what was written so far, and of what one step more writes.
-use Rattle.std.proofs.Common.{◌≡◌, ℕ, zero, suc, ◌+◌, ◌^◌, ◌<◌, ◌≤◌, ltb, ◌⊎◌, inl, inr, Bool, true, false, if◌then◌else◌, List, [], ◌++◌, Option, Result, Ok, Err, OnOk, length, refl, ap, sym, ◌∙◌, subst, arith, append_assoc}
+use Rattle.std.proofs.Common.{◌≡◌, ℕ, zero, suc, ◌+◌, ◌^◌, ◌<◌, ◌≤◌, ltb, ◌⊎◌, inl, inr, Bool, true, false, if◌then◌else◌, List, [], ◌++◌, Result, Ok, Err, OnOk, length, refl, ap, sym, ◌∙◌, subst, arith, append_assoc}
 use Rattle.std.specs.Bool.{⊤}
-use Rattle.std.specs.Io.KnownBytes.{Appends}
 use Rattle.std.proofs.lemmas.Bool.{le-ltb}
 use Rattle.std.proofs.lemmas.List.{append-nil}
 use Rattle.jk_math.specs.Front.{IsFront}
@@ -9,7 +8,6 @@ use Rattle.jk_math.specs.Memory.{IsMemory}
 use Rattle.jk_math.specs.Picture.{Picture, IsPicture}
 use Rattle.jk_math.specs.declared.fault.Fault.{Fault}
 use Rattle.jk_math.specs.declared.fault.Fault.TheVariants.{BadParameters, Limit}
-use Rattle.jk_math.proofs.Laws.{appends_none, appends_join}
 use Rattle.jk_marks.specs.Markers.{marker_text, eoc}
 use Rattle.jk_marks.specs.Siz.{tile_count}
 use Rattle.jk_marks.specs.Codestream.{main_text, part_text, codestream_text, segments_of}
@@ -24,10 +22,10 @@ use Rattle.jk_window.specs.Views.{holds_below}
 use Rattle.jk_window.proofs.Laws.{below_none, below_more, below_fails}
 use Rattle.jk_code.specs.Meaning.{Means}
 use Rattle.jk_code.specs.Fronts.{HasFronts}
-use Rattle.jk_code.specs.RowsWritten.{WereAllGiven, HasMetBefore, IsWrittenOf}
+use Rattle.jk_code.specs.RowsWritten.{WereAllGiven, HasMetBefore, IsWrittenOfBy}
 use Rattle.jk_code.specs.Written.{main_for, part_for, part_fits, parts_fit, tree_for, written}
-use Rattle.jk_code.specs.Beginnings.{front_of, parts_upto, text_upto, text_before, IsFirstTooLong, Left}
-use Rattle.jk_code.specs.Sending.{IsTooLongAhead, IsSent, IsSentAsMade, IsPartSent, IsRestSent}
+use Rattle.jk_code.specs.Beginnings.{front_of, parts_upto, text_upto, text_before, IsFirstTooLong, LeftBy}
+use Rattle.jk_code.specs.Sending.{IsTooLongAhead, IsSent, IsSentAsMade, IsPartSent, IsRestSent, IsSink}
 use Rattle.jk_code.proofs.LoopLaws.{parts_more}
 use Rattle.jk_code.proofs.BeginningLaws.{file_ends, limit_due}
 
@@ -44,14 +42,14 @@ front_whole text all e = record { more = []; text = e ∙ sym (append-nil text) 
 
 -- ---- one text after another
 
--- this was written between two states of a writer
-abbrev pub Wrote : (a b : Option (List ℕ)) → (List ℕ → Type 0) → Type 0
-Wrote a b P = (text : List ℕ) × Appends a b text × P text
+-- such a text was taken between two states of what takes it
+abbrev pub Wrote : {K : Type 0} → (took : K → List ℕ → K → Type 0) → (a b : K) → (List ℕ → Type 0) → Type 0
+Wrote took a b P = (text : List ℕ) × took a text b × P text
 
 -- a text that is made as it is written, behind one that was sent
-pub put_behind : (x y first last : List ℕ) (r : Result ⊤ Fault) → first ≡ x → IsSentAsMade y last r → IsSentAsMade (x ++ y) (first ++ last) r
-put_behind x y first last (Ok done) whole put = ap (λ (v : List ℕ). v ++ last) whole ∙ ap (λ (v : List ℕ). x ++ v) put
-put_behind x y first last (Err e) whole put =
+pub put_behind : (tells : Fault → Type 0) (x y first last : List ℕ) (r : Result ⊤ Fault) → first ≡ x → IsSentAsMade tells y last r → IsSentAsMade tells (x ++ y) (first ++ last) r
+put_behind tells x y first last (Ok done) whole put = ap (λ (v : List ℕ). v ++ last) whole ∙ ap (λ (v : List ℕ). x ++ v) put
+put_behind tells x y first last (Err e) whole put =
     (put.0, subst (λ (v : List ℕ). IsFront (v ++ last) (x ++ y)) (sym whole) (front_behind x last y put.1))
 
 -- a text is sent where its first half is cut off
@@ -62,13 +60,13 @@ sent_first x y part front = record {
 }
 
 -- a tile-part whose length can be said is written as a text is
-pub part_put : (text part : List ℕ) (fits : Bool) (r : Result ⊤ Fault) → fits ≡ true → IsSentAsMade text part r → IsPartSent text fits part r
-part_put text part fits (Ok done) fit put = (fit, put)
-part_put text part fits (Err e) fit put = inr (inr (put.0, fit, put.1))
+pub part_put : (tells : Fault → Type 0) (text part : List ℕ) (fits : Bool) (r : Result ⊤ Fault) → fits ≡ true → IsSentAsMade tells text part r → IsPartSent tells text fits part r
+part_put tells text part fits (Ok done) fit put = (fit, put)
+part_put tells text part fits (Err e) fit put = inr (inr (put.0, fit, put.1))
 
 -- and nothing of it where memory is refused before, or it is too long
-pub part_none : (text : List ℕ) (n : ℕ) (size : ℕ) (e : Fault) → size ≤ n → IsMemory e ⊎ ((e ≡ Limit) × (2 ^ 32 ≤ 14 + size)) → IsPartSent text (ltb (14 + n) (2 ^ 32)) [] (Err e)
-part_none text n size e least why = elim why [
+pub part_none : (tells : Fault → Type 0) (text : List ℕ) (n : ℕ) (size : ℕ) (e : Fault) → size ≤ n → IsMemory e ⊎ ((e ≡ Limit) × (2 ^ 32 ≤ 14 + size)) → IsPartSent tells text (ltb (14 + n) (2 ^ 32)) [] (Err e)
+part_none tells text n size e least why = elim why [
   | inl memory ↦ inr (inl (memory, refl))
   | inr limit ↦ inl (limit.0, le-ltb (14 + n) (2 ^ 32) (let long = limit.1 in omega (arith, long, least)), refl)
 ]
@@ -79,20 +77,20 @@ part_none text n size e least why = elim why [
 abbrev pub IsRestUpto : Picture → Parameters → ℕ → List ℕ → Type 0
 IsRestUpto p q t text = parts_upto p q 1 ++ text ≡ parts_upto p q t
 
-pub rest_more : (p : Picture) (q : Parameters) (a b c : Option (List ℕ)) (t : ℕ) → Wrote a b (IsRestUpto p q t) → Wrote b c (λ part. (part_fits p q t ≡ true) × (part ≡ part_text (part_for p q t)))
-    → Wrote a c (IsRestUpto p q (t + 1))
-rest_more p q a b c t before last = (
+pub rest_more : {K : Type 0} (took : K → List ℕ → K → Type 0) (tells : Fault → Type 0) (law : IsSink took) (p : Picture) (q : Parameters) (a b c : K) (t : ℕ) → Wrote took a b (IsRestUpto p q t) → Wrote took b c (λ part. (part_fits p q t ≡ true) × (part ≡ part_text (part_for p q t)))
+    → Wrote took a c (IsRestUpto p q (t + 1))
+rest_more took tells law p q a b c t before last = (
   before.0 ++ last.0,
-  appends_join a b c before.0 last.0 before.1 last.1,
+  law.joined a b c before.0 last.0 before.1 last.1,
   sym (append_assoc (parts_upto p q 1) before.0 last.0) ∙ ap (λ (v : List ℕ). v ++ last.0) before.2 ∙ ap (λ (v : List ℕ). parts_upto p q t ++ v) last.2.1
       ∙ sym (parts_more (part_for p q) t),
 )
 
-pub rest_stopped : (p : Picture) (q : Parameters) (a b c : Option (List ℕ)) (t : ℕ) (e : Fault) → 0 < t → t < tile_count (siz_of p q) → holds_below (part_fits p q) t ≡ true
-    → Wrote a b (IsRestUpto p q t) → Wrote b c (λ part. IsPartSent (part_text (part_for p q t)) (part_fits p q t) part (Err e))
-    → Wrote a c (λ text. IsRestSent p q text (Err e))
-rest_stopped p q a b c t e some lt fit before last =
-    (before.0 ++ part, appends_join a b c before.0 part before.1 last.1, why last.2)
+pub rest_stopped : {K : Type 0} (took : K → List ℕ → K → Type 0) (tells : Fault → Type 0) (law : IsSink took) (p : Picture) (q : Parameters) (a b c : K) (t : ℕ) (e : Fault) → 0 < t → t < tile_count (siz_of p q) → holds_below (part_fits p q) t ≡ true
+    → Wrote took a b (IsRestUpto p q t) → Wrote took b c (λ part. IsPartSent tells (part_text (part_for p q t)) (part_fits p q t) part (Err e))
+    → Wrote took a c (λ text. IsRestSent tells p q text (Err e))
+rest_stopped took tells law p q a b c t e some lt fit before last =
+    (before.0 ++ part, law.joined a b c before.0 part before.1 last.1, why last.2)
   where
     part : List ℕ
     part = last.0
@@ -103,7 +101,7 @@ rest_stopped p q a b c t e some lt fit before last =
     none : part ≡ [] → parts_upto p q 1 ++ (before.0 ++ part) ≡ parts_upto p q t
     none empty = all ∙ ap (λ (v : List ℕ). parts_upto p q t ++ v) empty ∙ append-nil (parts_upto p q t)
 
-    why : IsPartSent (part_text (part_for p q t)) (part_fits p q t) part (Err e) → IsRestSent p q (before.0 ++ part) (Err e)
+    why : IsPartSent tells (part_text (part_for p q t)) (part_fits p q t) part (Err e) → IsRestSent tells p q (before.0 ++ part) (Err e)
     why (inl long) = inl (long.0, t, some, record { tile = lt; before = fit; long = long.1 }, none long.2)
     why (inr (inl memory)) = inr (inl memory.0, t, omega (arith, lt), fit, front_whole _ _ (sym (none memory.1)))
     why (inr (inr shelf)) =
@@ -143,23 +141,23 @@ before_is Raw p q zero some raw = absurd (omega (arith, some))
 before_is Raw p q (suc n) some raw = refl
 before_is Jp2 p q n some raw = absurd (raw refl)
 
-pub left_none : (p : Picture) (q : Parameters) (a : Option (List ℕ)) (e : Fault) → IsMemory e → Wrote a a (λ text. Left p q text (Err e))
-left_none p q a e memory =
-    ([], appends_none a, inr (inr (inl memory, inl (0, omega arith, below_none (part_fits p q), record { more = text_upto p q 0; text = refl }))))
+pub left_none : {K : Type 0} (took : K → List ℕ → K → Type 0) (tells : Fault → Type 0) (law : IsSink took) (p : Picture) (q : Parameters) (a : K) (e : Fault) → IsMemory e → Wrote took a a (λ text. LeftBy tells p q text (Err e))
+left_none took tells law p q a e memory =
+    ([], law.none a, inr (inr (inl memory, inl (0, omega arith, below_none (part_fits p q), record { more = text_upto p q 0; text = refl }))))
 
-pub left_ahead : (p : Picture) (q : Parameters) (a : Option (List ℕ)) (e : Fault) → is_profile q p ≡ true → e ≡ Limit → IsTooLongAhead p q → Wrote a a (λ text. Left p q text (Err e))
-left_ahead p q a e profile limit ahead =
-    ([], appends_none a, inr (inl (limit, limit_due p q ahead.0 profile ahead.1, ahead.0, ahead.1, sym ahead.2)))
+pub left_ahead : {K : Type 0} (took : K → List ℕ → K → Type 0) (tells : Fault → Type 0) (law : IsSink took) (p : Picture) (q : Parameters) (a : K) (e : Fault) → is_profile q p ≡ true → e ≡ Limit → IsTooLongAhead p q → Wrote took a a (λ text. LeftBy tells p q text (Err e))
+left_ahead took tells law p q a e profile limit ahead =
+    ([], law.none a, inr (inl (limit, limit_due p q ahead.0 profile ahead.1, ahead.0, ahead.1, sym ahead.2)))
 
-pub left_start : (p : Picture) (q : Parameters) (a b : Option (List ℕ)) (start : List ℕ) (e : Fault) → 0 < tile_count (siz_of p q) → part_fits p q 0 ≡ true → start ≡ text_upto p q 1
-    → Wrote a b (λ part. IsSentAsMade start part (Err e)) → Wrote a b (λ text. Left p q text (Err e))
-left_start p q a b start e some fit same sent =
+pub left_start : {K : Type 0} (took : K → List ℕ → K → Type 0) (tells : Fault → Type 0) (law : IsSink took) (p : Picture) (q : Parameters) (a b : K) (start : List ℕ) (e : Fault) → 0 < tile_count (siz_of p q) → part_fits p q 0 ≡ true → start ≡ text_upto p q 1
+    → Wrote took a b (λ part. IsSentAsMade tells start part (Err e)) → Wrote took a b (λ text. LeftBy tells p q text (Err e))
+left_start took tells law p q a b start e some fit same sent =
     (sent.0, sent.1, inr (inr (sent.2.0, inl (1, some, below_more (part_fits p q) 0 (below_none (part_fits p q)) fit, subst (λ (x : List ℕ). IsFront sent.0 x) same sent.2.1))))
 
-pub left_rest : (p : Picture) (q : Parameters) (a b c : Option (List ℕ)) (start : List ℕ) (e : Fault) → is_profile q p ≡ true → (q.container ≡ Jp2 → parts_fit p q ≡ true) → start ≡ text_upto p q 1
-    → Wrote a b (λ part. part ≡ start) → Wrote b c (λ text. IsRestSent p q text (Err e)) → Wrote a c (λ text. Left p q text (Err e))
-left_rest p q a b c start e profile all same first rest =
-    (first.0 ++ rest.0, appends_join a b c first.0 rest.0 first.1 rest.1, why rest.2)
+pub left_rest : {K : Type 0} (took : K → List ℕ → K → Type 0) (tells : Fault → Type 0) (law : IsSink took) (p : Picture) (q : Parameters) (a b c : K) (start : List ℕ) (e : Fault) → is_profile q p ≡ true → (q.container ≡ Jp2 → parts_fit p q ≡ true) → start ≡ text_upto p q 1
+    → Wrote took a b (λ part. part ≡ start) → Wrote took b c (λ text. IsRestSent tells p q text (Err e)) → Wrote took a c (λ text. LeftBy tells p q text (Err e))
+left_rest took tells law p q a b c start e profile all same first rest =
+    (first.0 ++ rest.0, law.joined a b c first.0 rest.0 first.1 rest.1, why rest.2)
   where
     here : first.0 ++ rest.0 ≡ text_upto p q 1 ++ rest.0
     here = ap (λ (v : List ℕ). v ++ rest.0) (first.2 ∙ same)
@@ -167,7 +165,7 @@ left_rest p q a b c start e profile all same first rest =
     raw : (n : ℕ) → IsFirstTooLong p q n → q.container ≡ Jp2 → ⊥
     raw n long jp2 = absurd (let both : true ≡ false = sym (all jp2) ∙ below_fails (part_fits p q) (tile_count (siz_of p q)) n long.tile long.long in cc)
 
-    why : IsRestSent p q rest.0 (Err e) → Left p q (first.0 ++ rest.0) (Err e)
+    why : IsRestSent tells p q rest.0 (Err e) → LeftBy tells p q (first.0 ++ rest.0) (Err e)
     why (inl long) =
         inr (inl (
           long.0,
@@ -179,11 +177,11 @@ left_rest p q a b c start e profile all same first rest =
     why (inr stopped) =
         inr (inr (stopped.0, inl (stopped.1, stopped.2, stopped.3, subst (λ (x : List ℕ). IsFront x (text_upto p q stopped.1)) (sym here) (begun_more p q stopped.1 rest.0 stopped.4))))
 
-pub left_end : (p : Picture) (q : Parameters) (a b c d : Option (List ℕ)) (start : List ℕ) (r : Result ⊤ Fault) → is_profile q p ≡ true → IsWrittenBy q p → start ≡ text_upto p q 1
-    → Wrote a b (λ part. part ≡ start) → Wrote b c (λ text. (parts_fit p q ≡ true) × IsRestUpto p q (tile_count (siz_of p q)) text) → Wrote c d (λ part. IsSent (marker_text eoc) part r)
-    → Wrote a d (λ text. Left p q text r)
-left_end p q a b c d start r profile by same first rest last =
-    ((first.0 ++ rest.0) ++ last.0, appends_join a c d (first.0 ++ rest.0) last.0 (appends_join a b c first.0 rest.0 first.1 rest.1) last.1, why r last.2)
+pub left_end : {K : Type 0} (took : K → List ℕ → K → Type 0) (tells : Fault → Type 0) (law : IsSink took) (p : Picture) (q : Parameters) (a b c d : K) (start : List ℕ) (r : Result ⊤ Fault) → is_profile q p ≡ true → IsWrittenBy q p → start ≡ text_upto p q 1
+    → Wrote took a b (λ part. part ≡ start) → Wrote took b c (λ text. (parts_fit p q ≡ true) × IsRestUpto p q (tile_count (siz_of p q)) text) → Wrote took c d (λ part. IsSent tells (marker_text eoc) part r)
+    → Wrote took a d (λ text. LeftBy tells p q text r)
+left_end took tells law p q a b c d start r profile by same first rest last =
+    ((first.0 ++ rest.0) ++ last.0, law.joined a c d (first.0 ++ rest.0) last.0 (law.joined a b c first.0 rest.0 first.1 rest.1) last.1, why r last.2)
   where
     count : ℕ
     count = tile_count (siz_of p q)
@@ -194,7 +192,7 @@ left_end p q a b c d start r profile by same first rest last =
     whole : written p q ≡ Ok (text_upto p q count ++ marker_text eoc)
     whole = file_ends p q profile by rest.2.0
 
-    why : (r : Result ⊤ Fault) → IsSent (marker_text eoc) last.0 r → Left p q ((first.0 ++ rest.0) ++ last.0) r
+    why : (r : Result ⊤ Fault) → IsSent tells (marker_text eoc) last.0 r → LeftBy tells p q ((first.0 ++ rest.0) ++ last.0) r
     why (Ok done) sent = whole ∙ ap (λ (v : List ℕ). Ok (v ++ marker_text eoc)) (sym here) ∙ ap (λ (v : List ℕ). Ok ((first.0 ++ rest.0) ++ v)) (sym sent)
     why (Err e) sent =
         inr (inr (
@@ -207,58 +205,54 @@ left_end p q a b c d start r profile by same first rest last =
         ))
 
 -- the whole file where it wasn't refused
-pub left_ok : (p : Picture) (q : Parameters) (a b : Option (List ℕ)) (r : Result ⊤ Fault) → Wrote a b (λ text. Left p q text r) → OnOk r ((file : List ℕ) × (written p q ≡ Ok file) × Appends a b file)
-left_ok p q a b (Ok done) wrote = (wrote.0, wrote.2, wrote.1)
-left_ok p q a b (Err e) wrote = tt
+pub left_ok : {K : Type 0} (took : K → List ℕ → K → Type 0) (tells : Fault → Type 0) (law : IsSink took) (p : Picture) (q : Parameters) (a b : K) (r : Result ⊤ Fault) → Wrote took a b (λ text. LeftBy tells p q text r) → OnOk r ((file : List ℕ) × (written p q ≡ Ok file) × took a file b)
+left_ok took tells law p q a b (Ok done) wrote = (wrote.0, wrote.2, wrote.1)
+left_ok took tells law p q a b (Err e) wrote = tt
 
-pub left_refused : (p : Picture) (q : Parameters) (a : Option (List ℕ)) (e : Fault) → is_profile q p ≡ true → IsMemory e ⊎ ((e ≡ Limit) × IsTooLongAhead p q) → Wrote a a (λ text. Left p q text (Err e))
-left_refused p q a e profile why = elim why [
-  | inl memory ↦ left_none p q a e memory
-  | inr limit ↦ left_ahead p q a e profile limit.0 limit.1
+pub left_refused : {K : Type 0} (took : K → List ℕ → K → Type 0) (tells : Fault → Type 0) (law : IsSink took) (p : Picture) (q : Parameters) (a : K) (e : Fault) → is_profile q p ≡ true → IsMemory e ⊎ ((e ≡ Limit) × IsTooLongAhead p q) → Wrote took a a (λ text. LeftBy tells p q text (Err e))
+left_refused took tells law p q a e profile why = elim why [
+  | inl memory ↦ left_none took tells law p q a e memory
+  | inr limit ↦ left_ahead took tells law p q a e profile limit.0 limit.1
 ]
-
--- outside the profile nothing is written
-pub left_outside : (p : Picture) (q : Parameters) (a : Option (List ℕ)) (e : Fault) → e ≡ BadParameters → is_profile q p ≡ false → Wrote a a (λ text. Left p q text (Err e))
-left_outside p q a e bad outside = ([], appends_none a, inl (bad, outside, refl))
 
 -- ---- the file of rows that come
 
 -- nothing of it, where they don't all come,
-pub come_none : {A : Type 0} (gave : A → Picture → A → Type 0) (met : A → Fault → A → Type 0) (f : PictureFrame) (q : Parameters) (from to : A) (a : Option (List ℕ)) (e : Fault) → IsMemory e ⊎ HasMetBefore gave met f from to e
-    → Wrote a a (λ text. IsWrittenOf gave met f q from to text (Err e))
-come_none gave met f q from to a e why = ([], appends_none a, inl (e, refl, why, refl))
+pub come_none : {K : Type 0} (took : K → List ℕ → K → Type 0) (tells : Fault → Type 0) (law : IsSink took) {A : Type 0} (gave : A → Picture → A → Type 0) (met : A → Fault → A → Type 0) (f : PictureFrame) (q : Parameters) (from to : A) (a : K) (e : Fault) → IsMemory e ⊎ HasMetBefore gave met f from to e
+    → Wrote took a a (λ text. IsWrittenOfBy tells gave met f q from to text (Err e))
+come_none took tells law gave met f q from to a e why = ([], law.none a, inl (e, refl, why, refl))
 
 -- or where the parameters are refused
 refused : (b : Bool) (r : Result ⊤ Fault) (e : Fault) → r ≡ (if b then Ok tt else Err BadParameters) → r ≡ Err e → (b ≡ false) × (e ≡ BadParameters)
 refused true r e due is = absurd (let both = sym is ∙ due in cc)
 refused false r e due is = (refl, (let both = sym is ∙ due in cc))
 
-pub come_refused : {A : Type 0} (gave : A → Picture → A → Type 0) (met : A → Fault → A → Type 0) (f : PictureFrame) (q : Parameters) (from to : A) (a : Option (List ℕ)) (r : Result ⊤ Fault) (e : Fault) → r ≡ (if is_profile_for q f then Ok tt else Err BadParameters) → r ≡ Err e
-    → (p : Picture) × WereAllGiven gave f from to p → Wrote a a (λ text. IsWrittenOf gave met f q from to text (Err e))
-come_refused gave met f q from to a r e due is (p, given) =
+pub come_refused : {K : Type 0} (took : K → List ℕ → K → Type 0) (tells : Fault → Type 0) (law : IsSink took) {A : Type 0} (gave : A → Picture → A → Type 0) (met : A → Fault → A → Type 0) (f : PictureFrame) (q : Parameters) (from to : A) (a : K) (r : Result ⊤ Fault) (e : Fault) → r ≡ (if is_profile_for q f then Ok tt else Err BadParameters) → r ≡ Err e
+    → (p : Picture) × WereAllGiven gave f from to p → Wrote took a a (λ text. IsWrittenOfBy tells gave met f q from to text (Err e))
+come_refused took tells law gave met f q from to a r e due is (p, given) =
     let why = refused (is_profile_for q f) r e due is in
     let outside : is_profile q p ≡ false = profile_by_frame q p ∙ ap (λ (g : PictureFrame). is_profile_for q g) given.frame ∙ why.0 in
-    ([], appends_none a, inr (p, given, inl (why.1, outside, refl)))
+    ([], law.none a, inr (p, given, inl (why.1, outside, refl)))
 
 -- the picture has the profile else:
 come_profile : {A : Type 0} (gave : A → Picture → A → Type 0) (f : PictureFrame) (q : Parameters) (from to : A) (p : Picture) → WereAllGiven gave f from to p → is_profile_for q f ≡ true → is_profile q p ≡ true
 come_profile gave f q from to p given profile = profile_by_frame q p ∙ ap (λ (g : PictureFrame). is_profile_for q g) given.frame ∙ profile
 
 -- the whole file,
-pub come_ok : {A : Type 0} (gave : A → Picture → A → Type 0) (f : PictureFrame) (q : Parameters) (from to : A) (a b : Option (List ℕ)) (Has : Picture → Type 0) (r : Result ⊤ Fault) → is_profile_for q f ≡ true → (p : Picture) × WereAllGiven gave f from to p × Has p
-    → ((p : Picture) → IsPicture p → frame_of p ≡ f → Has p → is_profile q p ≡ true → Wrote a b (λ text. Left p q text r))
+pub come_ok : {K : Type 0} (took : K → List ℕ → K → Type 0) (tells : Fault → Type 0) (law : IsSink took) {A : Type 0} (gave : A → Picture → A → Type 0) (f : PictureFrame) (q : Parameters) (from to : A) (a b : K) (Has : Picture → Type 0) (r : Result ⊤ Fault) → is_profile_for q f ≡ true → (p : Picture) × WereAllGiven gave f from to p × Has p
+    → ((p : Picture) → IsPicture p → frame_of p ≡ f → Has p → is_profile q p ≡ true → Wrote took a b (λ text. LeftBy tells p q text r))
     → OnOk r ((p : Picture) → IsPicture p → frame_of p ≡ f → Has p → (file : List ℕ) → written p q ≡ Ok file → Means file 0 p × HasFronts p q file)
-    → OnOk r ((p : Picture) × WereAllGiven gave f from to p × (file : List ℕ) × (written p q ≡ Ok file) × Appends a b file × Means file 0 p × HasFronts p q file)
-come_ok gave f q from to a b Has (Ok done) profile (p, given, has) part means =
+    → OnOk r ((p : Picture) × WereAllGiven gave f from to p × (file : List ℕ) × (written p q ≡ Ok file) × took a file b × Means file 0 p × HasFronts p q file)
+come_ok took tells law gave f q from to a b Has (Ok done) profile (p, given, has) part means =
     let wrote = part p given.picture given.frame has (come_profile gave f q from to p given profile) in
     let meant = means p given.picture given.frame has wrote.0 wrote.2 in
     (p, given, wrote.0, wrote.2, wrote.1, meant.0, meant.1)
-come_ok gave f q from to a b Has (Err e) profile all part means = tt
+come_ok took tells law gave f q from to a b Has (Err e) profile all part means = tt
 
 -- or what is left of it
-pub come_part : {A : Type 0} (gave : A → Picture → A → Type 0) (met : A → Fault → A → Type 0) (f : PictureFrame) (q : Parameters) (from to : A) (a b : Option (List ℕ)) (Has : Picture → Type 0) (r : Result ⊤ Fault) → is_profile_for q f ≡ true
-    → (p : Picture) × WereAllGiven gave f from to p × Has p → ((p : Picture) → IsPicture p → frame_of p ≡ f → Has p → is_profile q p ≡ true → Wrote a b (λ text. Left p q text r))
-    → Wrote a b (λ text. IsWrittenOf gave met f q from to text r)
-come_part gave met f q from to a b Has r profile (p, given, has) part =
+pub come_part : {K : Type 0} (took : K → List ℕ → K → Type 0) (tells : Fault → Type 0) (law : IsSink took) {A : Type 0} (gave : A → Picture → A → Type 0) (met : A → Fault → A → Type 0) (f : PictureFrame) (q : Parameters) (from to : A) (a b : K) (Has : Picture → Type 0) (r : Result ⊤ Fault) → is_profile_for q f ≡ true
+    → (p : Picture) × WereAllGiven gave f from to p × Has p → ((p : Picture) → IsPicture p → frame_of p ≡ f → Has p → is_profile q p ≡ true → Wrote took a b (λ text. LeftBy tells p q text r))
+    → Wrote took a b (λ text. IsWrittenOfBy tells gave met f q from to text r)
+come_part took tells law gave met f q from to a b Has r profile (p, given, has) part =
     let wrote = part p given.picture given.frame has (come_profile gave f q from to p given profile) in
     (wrote.0, wrote.1, inr (p, given, wrote.2))

@@ -59,16 +59,27 @@ IsBegun p q text =
     ((n : ℕ) × (n ≤ tile_count (siz_of p q)) × (holds_below (part_fits p q) n ≡ true) × IsFront text (text_upto p q n))
     ⊎ ((file : List ℕ) × (written p q ≡ Ok file) × IsFront text file)
 
--- What was written where encoding was refused: outside the profile nothing; where a tile-part is
--- too long, what stands before it or nothing; where memory or a write was refused, a beginning.
-abbrev pub IsLeft : Picture → Parameters → List ℕ → Fault → Type 0
-IsLeft p q text e =
+-- What was written where encoding was refused, into what may tell such a fault: outside the profile
+-- nothing; where a tile-part is too long, what stands before it or nothing; where memory or a write
+-- was refused, a beginning.
+abbrev pub IsLeftBy : (tells : Fault → Type 0) → Picture → Parameters → List ℕ → Fault → Type 0
+IsLeftBy tells p q text e =
     ((e ≡ BadParameters) × (is_profile q p ≡ false) × (text ≡ []))
     ⊎ ((e ≡ Limit) × (written p q ≡ Err Limit) × (n : ℕ) × IsFirstTooLong p q n
     × (text ≡ text_before q.container p q n))
-    ⊎ ((IsMemory e ⊎ (e ≡ Shelf)) × IsBegun p q text)
+    ⊎ ((IsMemory e ⊎ tells e) × IsBegun p q text)
 
 -- What was written where encoding has ended so: the whole file where it wasn't refused.
+abbrev pub LeftBy : (tells : Fault → Type 0) → Picture → Parameters → List ℕ → Result ⊤ Fault → Type 0
+LeftBy tells p q text (Ok done) = written p q ≡ Ok text
+LeftBy tells p q text (Err e) = IsLeftBy tells p q text e
+
+-- the same of a writer, which tells Shelf
+abbrev pub IsShelf : Fault → Type 0
+IsShelf e = e ≡ Shelf
+
+abbrev pub IsLeft : Picture → Parameters → List ℕ → Fault → Type 0
+IsLeft p q text e = IsLeftBy IsShelf p q text e
+
 abbrev pub Left : Picture → Parameters → List ℕ → Result ⊤ Fault → Type 0
-Left p q text (Ok done) = written p q ≡ Ok text
-Left p q text (Err e) = IsLeft p q text e
+Left p q text r = LeftBy IsShelf p q text r

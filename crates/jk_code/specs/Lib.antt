@@ -13,7 +13,6 @@ pub mod Fronts
 pub mod Frames
 pub mod Viewing
 pub mod ViewReading
-pub mod Stripes
 pub mod Made
 pub mod Beginnings
 pub mod Sending
@@ -23,7 +22,10 @@ pub mod ReadImages
 pub mod DataTold
 pub mod Contents
 pub mod RowsWritten
+pub mod ImageGiven
 pub mod ComingRows
 pub mod ComingWalks
 pub mod TeamWork
 pub mod TablesTold
+pub mod Kept
+pub mod ImageTold

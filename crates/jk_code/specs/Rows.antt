@@ -3,7 +3,6 @@ use Rattle.std.specs.Prelude.{◌≡◌, ℕ, ◌+◌, ◌-◌, ◌*◌, ◌%◌
 use Rattle.jk_math.specs.Answer.{Answers}
 use Rattle.jk_math.specs.Picture.{Picture}
 use Rattle.jk_math.specs.declared.fault.Fault.{Fault}
-use Rattle.jk_math.specs.declared.fault.Fault.TheVariants.{Shelf}
 use Rattle.jk_math.specs.declared.rect.Rect.{Rect}
 use Rattle.jk_marks.specs.Siz.{tile_count, tiles_across}
 use Rattle.jk_tile.specs.TileMeaning.{shown_area}
@@ -15,7 +14,7 @@ use Rattle.jk_rows.specs.Tiles.{IsTileRows, HasFaultIn}
 use Rattle.jk_code.specs.declared.row_walk.RowWalk.{RowWalk}
 use Rattle.jk_code.specs.declared.rows.TileRow.{TileRow}
 use Rattle.jk_code.specs.Made.{rows_of}
-use Rattle.jk_code.specs.MeaningReading.{picture_with, planes_of_tiles}
+use Rattle.jk_code.specs.MeaningReading.{picture_with, planes_of_tiles, tiles_tested}
 use Rattle.jk_code.specs.Sources.{ImageSource}
 
 -- From one state of what takes them to another, the rows of a picture from row y up to row z were
@@ -29,6 +28,23 @@ AreTaken took p y z from (w ∷ stripes) to =
 -- the same, whichever stripes they were
 abbrev pub WereTaken : {A : Type 0} → (took : A → Picture → A → Type 0) → Picture → (y z : ℕ) → (from to : A) → Type 0
 WereTaken {A} took p y z from to = (stripes : List (ℕ × A)) × AreTaken took p y z from stripes to
+
+-- Rows of a picture were taken from row y on, and those that came next, up to row z at most, were
+-- refused with this fault.
+pub record WereRefused {A : Type 0} (took : A → Picture → A → Type 0) (refused : A → Picture → Fault → A → Type 0) (p : Picture) (y z : ℕ) (from to : A) (e : Fault) : Type 0 where
+  pub next : ℕ
+  pub last : ℕ
+  pub before : A
+  pub low : y ≤ next
+  pub more : next < last
+  pub high : last ≤ z
+  pub taken : WereTaken took p y next from before
+  pub why : refused before (rows_of p next last) e to
+
+-- The rows of the picture that is due were refused so, and what refused them is told.
+abbrev pub AreRefused : {A : Type 0} → (took : A → Picture → A → Type 0) → (refused : A → Picture → Fault → A → Type 0) → (due : Result Picture Fault) → (from to : A) → Result (Unit {0}) Fault → Type 0
+AreRefused took refused due from to result =
+    (e : Fault) × (result ≡ Err e) × (p : Picture) × (due ≡ Ok p) × WereRefused took refused p p.y0 (p.y0 + p.height) from to e
 
 -- the picture whose rows are given: that of a source, whatever its code-blocks have
 abbrev pub picture_of : ImageSource → Picture
@@ -92,6 +108,15 @@ pub record IsRowWalk (s : ImageSource) (walk : RowWalk) : Type 0 where
 abbrev pub rows_left : ImageSource → RowWalk → ℕ
 rows_left s walk = (tile_count s.headers.siz - walk.row.first) * 2 ^ 31 + (walk.area.y1 - walk.y)
 
--- What is told where rows are given: what is due, or that they were refused where no fault is due.
-abbrev pub IsTold : Result (Unit {0}) Fault → (due : Result (Unit {0}) Fault) → Type 0
-IsTold result due = Answers (λ _. tt) result due ⊎ ((result ≡ Err Shelf) × (due ≡ Ok tt))
+-- What is told where rows were given so: what is due, or, where no fault is, what the giving ended with.
+abbrev pub IsTold : (given result : Result (Unit {0}) Fault) → (due : Result (Unit {0}) Fault) → Type 0
+IsTold given result due = Answers (λ _. tt) result due ⊎ ((result ≡ given) × (due ≡ Ok tt))
+
+-- the first fault of all code-blocks of a source
+abbrev pub fault_of : ImageSource → Result (Unit {0}) Fault
+fault_of s = tiles_tested s.bytes s.headers s.reduce (tile_count s.headers.siz)
+
+-- What is told of the rows of a source: its first fault, or none; or they were refused, where it has none.
+abbrev pub AreTold : {A : Type 0} → (took : A → Picture → A → Type 0) → (refused : A → Picture → Fault → A → Type 0) → ImageSource → (from to : A) → Result (Unit {0}) Fault → Type 0
+AreTold took refused s from to result = Answers (λ _. tt) result (fault_of s)
+    ⊎ ((fault_of s ≡ Ok tt) × (e : Fault) × (result ≡ Err e) × WereRefused took refused (picture_of s) s.area.y0 s.area.y1 from to e)

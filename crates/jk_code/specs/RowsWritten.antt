@@ -6,7 +6,7 @@ use Rattle.jk_math.specs.declared.fault.Fault.{Fault}
 use Rattle.jk_params.specs.declared.parameters.Parameters.{Parameters}
 use Rattle.jk_params.specs.declared.picture_frame.PictureFrame.{PictureFrame}
 use Rattle.jk_params.specs.PictureFrames.{frame_of}
-use Rattle.jk_code.specs.Beginnings.{Left}
+use Rattle.jk_code.specs.Beginnings.{LeftBy, IsShelf}
 use Rattle.jk_code.specs.Rows.{WereTaken}
 
 -- rows y up to z of an image with this frame
@@ -40,13 +40,18 @@ abbrev pub HasMetBefore : {A : Type 0} → (gave : A → Picture → A → Type 
     → (from to : A) → Fault → Type 0
 HasMetBefore {A} gave met f from to e = HasMet gave met f f.y0 (f.y0 + f.height) from to e
 
--- What was written where encoding has ended so: nothing where not all rows came; else what encoding
--- the picture of these rows into a writer leaves.
+-- What was written where encoding has ended so, into what may tell such a fault: nothing where not all
+-- rows came; else what encoding the picture of these rows leaves.
+abbrev pub IsWrittenOfBy : {A : Type 0} → (tells : Fault → Type 0) → (gave : A → Picture → A → Type 0) → (met : A → Fault → A → Type 0) → PictureFrame → Parameters
+    → (from to : A) → (text : List ℕ) → Result ⊤ Fault → Type 0
+IsWrittenOfBy {A} tells gave met f q from to text result =
+    ((e : Fault) × (result ≡ Err e) × (IsMemory e ⊎ HasMetBefore gave met f from to e) × (text ≡ []))
+    ⊎ ((p : Picture) × WereAllGiven gave f from to p × LeftBy tells p q text result)
+
+-- the same of a writer
 abbrev pub IsWrittenOf : {A : Type 0} → (gave : A → Picture → A → Type 0) → (met : A → Fault → A → Type 0) → PictureFrame → Parameters
     → (from to : A) → (text : List ℕ) → Result ⊤ Fault → Type 0
-IsWrittenOf {A} gave met f q from to text result =
-    ((e : Fault) × (result ≡ Err e) × (IsMemory e ⊎ HasMetBefore gave met f from to e) × (text ≡ []))
-    ⊎ ((p : Picture) × WereAllGiven gave f from to p × Left p q text result)
+IsWrittenOf {A} gave met f q from to text result = IsWrittenOfBy IsShelf gave met f q from to text result
 
 -- the sample of a picture at a place of the reference grid
 abbrev pub sample_on_grid : Picture → (c x y : ℕ) → ℤ

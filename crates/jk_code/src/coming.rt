@@ -16,7 +16,7 @@ use jk_geom::tile;
 use jk_marks::Coding;
 use jk_math::{Fault, Image};
 use jk_params::{Parameters, PictureFrame, siz_for};
-use jk_tile::{FallenTile, FallingTile, When, WrittenComponent};
+use jk_tile::{FallenTile, FallingTile, GivenRows, When, WrittenComponent};
 use std::alloc::Global;
 
 /// An image whose rows come: where it lies, how it is written, and how each of its components is
@@ -89,16 +89,14 @@ fn give_stripe(
         → HaveRows coming.now first p tiles.new.items) }
     ensures memory { IfErr result IsMemory }
 {
+    let rows = GivenRows {
+        image: stripe,
+        colours: coming.parameters.colour,
+        end: stripe.y0() + stripe.height(),
+    };
     for k in 0..tiles.len() {
         let source = component_at(coming, first + k);
-        tiles[k].give(
-            alloc,
-            &source,
-            coming.parameters.colour,
-            stripe,
-            values,
-            when,
-        )?;
+        tiles[k].give(alloc, &source, &rows, values, when)?;
     }
     Ok(())
 }

@@ -11,8 +11,7 @@ use crate::tile_data::TileData;
 use jk_geom::tile_count;
 use jk_marks::Exponents;
 use jk_math::Fault;
-use jk_params::{Parameters, PictureFrame, frame_of, siz_for};
-use jk_tile::{Sequential, WrittenImage, encode_tile, tile_bands};
+use jk_params::{Parameters, PictureFrame, siz_for};
 use std::alloc::Global;
 
 /// What tells how an image is written, but for its samples: its frame, the parameters, and the
@@ -22,18 +21,6 @@ pub(crate) struct WrittenFrame<'a> {
     pub(crate) frame: PictureFrame,
     pub(crate) parameters: &'a Parameters,
     pub(crate) exponents: &'a Exponents,
-}
-
-/// That of an image in memory.
-pub(crate) fn frame_written<'a>(source: &WrittenImage<'a>) -> WrittenFrame<'a>
-    ensures picture { HasPicture result source.now.image.now }
-    ensures parameters { result.parameters.now ≡ source.now.parameters.now }
-{
-    WrittenFrame {
-        frame: frame_of(source.image),
-        parameters: source.parameters,
-        exponents: source.exponents,
-    }
 }
 
 /// How many tiles there are.
@@ -62,16 +49,4 @@ pub(crate) trait TileContents {
         ensures value { IfOk result
             (λ v. (p : Picture) (q : Parameters) → tells self.now p q → IsDataText v (tile_text p q number)) }
         ensures memory { IfErr result IsMemory };
-}
-
-impl<'a> TileContents for WrittenImage<'a> {
-    ghost use Rattle.std.specs.Prelude.{◌≡◌};
-
-    ghost tells = { λ s p q. (s.image.now ≡ p) × (s.parameters.now ≡ q) };
-
-    fn content(&self, alloc: Global, number: u32) -> Result<TileData<'_>, Fault> {
-        let bands = tile_bands(&Sequential, alloc, self.image, self.parameters, number)?;
-        let packets = encode_tile(&Sequential, alloc, self, number, bands)?;
-        Ok(TileData::Packets(packets))
-    }
 }

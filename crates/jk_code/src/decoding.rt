@@ -1,33 +1,27 @@
 //! Decoding.
 
-ghost use Rattle.std.specs.Prelude.{◌≡◌, ℕ, ◌≤◌, ◌<◌, ◌-◌, List, length, map, IfOk, IfErr, OnOk, Ok, slice_index_or};
-ghost use Rattle.std.specs.List.{AllByRecursion};
+ghost use Rattle.std.specs.Prelude.{◌≡◌, ℕ, ◌<◌, ◌-◌, length, IfOk, IfErr, Ok};
 ghost use Rattle.jk_math.specs.Answer.{Answers};
 ghost use Rattle.jk_math.specs.Memory.{IsMemory};
-ghost use Rattle.jk_math.specs.Picture.{Picture, IsPicture, IsFrame};
+ghost use Rattle.jk_math.specs.Picture.{Picture, IsPicture};
 ghost use Rattle.jk_math.specs.Lists.{lists_of};
-ghost use Rattle.jk_math.specs.declared.rect.Rect.{Rect as Place};
-ghost use Rattle.jk_marks.specs.Siz.{tile_count};
-ghost use Rattle.jk_geom.specs.Partitions.{image_area, reduced_area};
-ghost use Rattle.jk_params.specs.Headers.{AreHeaders, tile_in};
-ghost use Rattle.jk_walk.specs.declared.places.PacketPlace.{PacketPlace};
-ghost use Rattle.jk_walk.specs.WalkReading.{packets_at};
-ghost use Rattle.jk_tile.specs.decoding.TileReading.{tested, tile_planes_at};
-ghost use Rattle.jk_code.specs.Meaning.{Means};
-ghost use Rattle.jk_code.specs.MeaningReading.{places_at, packets_tested, tiles_tested, planes_of_tiles, picture_with};
-ghost use Rattle.jk_code.specs.MeaningReading.{meaning_at};
-ghost use Rattle.jk_code.specs.ReadImages.{IsReadImage};
-ghost use Rattle.jk_geom.specs.Rectangles.{IsArea};
 ghost use Rattle.jk_math.specs.Raster.{places_of};
+ghost use Rattle.jk_marks.specs.Siz.{tile_count};
+ghost use Rattle.jk_geom.specs.Rectangles.{IsArea};
+ghost use Rattle.jk_params.specs.Headers.{AreHeaders};
+ghost use Rattle.jk_walk.specs.WalkReading.{packets_at};
+ghost use Rattle.jk_code.specs.Meaning.{Means};
+ghost use Rattle.jk_code.specs.MeaningReading.{packets_tested, picture_with, meaning_at};
+ghost use Rattle.jk_code.specs.ReadImages.{IsReadImage};
 ghost use Rattle.jk_code.specs.Tiles.{AreRead, ArePlanes, KeepsSamples, ShowsTileAt, IsPartSeen, part_lists, plane_in};
-ghost use Rattle.jk_window.specs.Views.{HaveLevels, frame_of};
 
-use crate::coded::{CodedImage, HeadedBytes};
+use crate::coded::HeadedBytes;
+use crate::keeping::{image_kept, stripe_keeper};
 use crate::reading::{ReadImage, read_image};
-use jk_geom::{reduced, tile};
+use crate::rows::all_rows;
 use jk_math::{Fault, Image, Rect};
 use jk_params::Codestream;
-use jk_tile::{CodedTile, decode_tile, put};
+use jk_tile::{CodedTile, put};
 use jk_walk::{TilePackets, read_packets};
 use std::alloc::Global;
 
@@ -78,67 +72,6 @@ pub(crate) fn put_tile(
     }
 }
 
-/// The planes of an image that is one tile.
-fn planes_of_one(alloc: Global, coded: &CodedImage<'_>) -> Result<Vec<Vec<i32>>, Fault>
-    requires { tile_count coded.now.headers.siz ≡ 1 }
-    ensures exact { Answers (λ _. tt) result
-        (tiles_tested coded.now.bytes coded.now.headers coded.now.reduce (tile_count coded.now.headers.siz)) }
-    ensures planes { IfOk result (λ v. lists_of v.items
-        ≡ planes_of_tiles coded.now.bytes coded.now.headers coded.now.reduce coded.now.area) }
-{
-    let all = coded.packets;
-    let only = CodedTile {
-        headers: coded.headers,
-        bytes: coded.bytes,
-        number: 0,
-        packets: &all[0],
-        reduce: coded.reduce,
-    };
-    decode_tile(alloc, &only)
-}
-
-/// The planes of an image, tile by tile.
-fn planes_of_all(alloc: Global, coded: &CodedImage<'_>) -> Result<Vec<Vec<i32>>, Fault>
-    ensures exact { Answers (λ _. tt) result
-        (tiles_tested coded.now.bytes coded.now.headers coded.now.reduce (tile_count coded.now.headers.siz)) }
-    ensures planes { IfOk result (λ v. lists_of v.items
-        ≡ planes_of_tiles coded.now.bytes coded.now.headers coded.now.reduce coded.now.area) }
-{
-    let headers = coded.headers;
-    let bytes = coded.bytes;
-    let all = coded.packets;
-    let reduce = coded.reduce;
-    let area = coded.area;
-    let mut planes = blank_planes(alloc, headers.siz().components, &area)?;
-    for number in 0..headers.tile_count() {
-        let next = CodedTile {
-            headers,
-            bytes,
-            number,
-            packets: &all[number],
-            reduce,
-        };
-        let part = reduced(&tile(headers.siz(), number as u32), reduce);
-        let shown = decode_tile(alloc, &next)?;
-        put_tile(&next, &area, &part, &shown, &mut planes);
-    }
-    Ok(planes)
-}
-
-/// The planes of the image. Those of a tile that is alone are the image's, and aren't put anywhere.
-pub(crate) fn all_planes(alloc: Global, coded: &CodedImage<'_>) -> Result<Vec<Vec<i32>>, Fault>
-    ensures exact { Answers (λ _. tt) result
-        (tiles_tested coded.now.bytes coded.now.headers coded.now.reduce (tile_count coded.now.headers.siz)) }
-    ensures planes { IfOk result (λ v. lists_of v.items
-        ≡ planes_of_tiles coded.now.bytes coded.now.headers coded.now.reduce coded.now.area) }
-{
-    if coded.headers.tile_count() == 1 {
-        planes_of_one(alloc, coded)
-    } else {
-        planes_of_all(alloc, coded)
-    }
-}
-
 /// A list of zeros for each component.
 pub(crate) fn blank_planes(
     alloc: Global,
@@ -175,22 +108,23 @@ pub(crate) fn image_of(
     )
 }
 
-/// The image of a file that is read but for its code-blocks.
-fn picture(alloc: Global, bytes: &[u8], read: &ReadImage) -> Result<Image, Fault>
+/// The image of a file that is read but for its code-blocks, by its rows, which are kept.
+fn kept_picture(alloc: Global, bytes: &[u8], read: &ReadImage) -> Result<Image, Fault>
     requires { (d : ℕ) × IsReadImage bytes.now d read.now }
     ensures { (d : ℕ) → IsReadImage bytes.now d read.now → Answers (λ i. i) result (meaning_at bytes.now d) }
 {
     let coded = read.coded(bytes);
-    let planes = all_planes(alloc, &coded)?;
-    image_of(&read.headers, &read.area, planes)
+    let mut kept = stripe_keeper(alloc, &read.area);
+    all_rows(alloc, &coded, u32::MAX, &mut kept)?;
+    image_kept(&read.headers, &read.area, kept)
 }
 
-/// The image that a file means.
-fn meaning(alloc: Global, bytes: &[u8], reduce: u32) -> Result<Image, Fault>
+/// The image that a file means, by its rows.
+fn kept_meaning(alloc: Global, bytes: &[u8], reduce: u32) -> Result<Image, Fault>
     ensures { Answers (λ i. i) result (meaning_at bytes.now reduce) }
 {
     let read = read_image(alloc, bytes, reduce)?;
-    picture(alloc, bytes, &read)
+    kept_picture(alloc, bytes, &read)
 }
 
 /// The image that a file, a bare codestream or a JP2 file, means at a reduction: the image itself
@@ -212,5 +146,5 @@ pub fn decode(alloc: Global, bytes: &[u8], reduce: u32) -> Result<Image, Fault>
     // A file means one image at most.
     ensures one { (p q : Picture) → Means bytes.now reduce p → Means bytes.now reduce q → p ≡ q }
 {
-    meaning(alloc, bytes, reduce)
+    kept_meaning(alloc, bytes, reduce)
 }

@@ -11,8 +11,8 @@ ghost use Rattle.jk_params.specs.Profile.{is_profile_for, IsWrittenFor};
 ghost use Rattle.jk_code.specs.Meaning.{Means};
 ghost use Rattle.jk_code.specs.Fronts.{HasFronts};
 ghost use Rattle.jk_code.specs.Written.{written};
-ghost use Rattle.jk_code.specs.Beginnings.{Left};
-ghost use Rattle.jk_code.specs.RowsWritten.{WereAllGiven, HasMetBefore, IsWrittenOf};
+ghost use Rattle.jk_code.specs.Beginnings.{LeftBy};
+ghost use Rattle.jk_code.specs.RowsWritten.{WereAllGiven, HasMetBefore, IsWrittenOf, IsWrittenOfBy};
 ghost use Rattle.jk_code.specs.ComingRows.{IsComing, tiles_coming, AreFallen, AreCoded};
 
 use crate::coming::{ComingImage, fallen_tiles};
@@ -22,7 +22,7 @@ use crate::writing::put_contents;
 use jk_marks::{Coding, Exponents, Quantisation};
 use jk_math::{Fault, Image};
 use jk_params::{Parameters, PictureFrame, coding_with};
-use jk_tile::FallenTile;
+use jk_tile::{FallenTile, TextSink, TextWriter};
 use std::alloc::Global;
 use std::io::Write;
 
@@ -103,7 +103,7 @@ pub(crate) fn open_coding(parameters: &Parameters) -> Coding
 }
 
 /// Writes the file of an image whose tiles are behind their last rows.
-pub(crate) fn put_tiles<W: Write>(
+pub(crate) fn put_tiles<W: TextSink>(
     alloc: Global,
     coming: &ComingImage<'_>,
     tiles: Vec<FallenTile>,
@@ -120,8 +120,8 @@ pub(crate) fn put_tiles<W: Write>(
     ensures part { (p : Picture) → IsPicture p → frame_of p ≡ coming.now.frame
         → AreCoded coming.now (tiles_coming coming.now) p tiles.items
         → is_profile coming.now.parameters.now p ≡ true
-        → (text : List ℕ) × Appends (W.contents writer.old) (W.contents writer.new) text
-        × Left p coming.now.parameters.now text result }
+        → (text : List ℕ) × W.took writer.old text writer.new
+        × LeftBy W.tells p coming.now.parameters.now text result }
 {
     let exponents = exponents_of(coming, &tiles);
     let coding = coding_known(coming, &exponents);
@@ -135,12 +135,13 @@ pub(crate) fn put_tiles<W: Write>(
         coming: *coming,
         coding: &coding,
         tables: &tables,
+        held: writer.holds(),
     };
     put_contents(alloc, &source, &contents, writer)
 }
 
 /// Codes the rows of an image and writes its file.
-fn put_rows<S: RowSupply, W: Write>(
+pub(crate) fn put_rows<S: RowSupply, W: TextSink>(
     alloc: Global,
     frame: &PictureFrame,
     parameters: &Parameters,
@@ -156,10 +157,10 @@ fn put_rows<S: RowSupply, W: Write>(
     requires first { S.next supply.old ≡ frame.now.y0 }
     ensures ok { OnOk result ((p : Picture) × WereAllGiven S.gave frame.now supply.old supply.new p
         × (file : List ℕ) × (written p parameters.now ≡ Ok file)
-        × Appends (W.contents writer.old) (W.contents writer.new) file
+        × W.took writer.old file writer.new
         × Means file 0 p × HasFronts p parameters.now file) }
-    ensures part { (text : List ℕ) × Appends (W.contents writer.old) (W.contents writer.new) text
-        × IsWrittenOf S.gave S.met frame.now parameters.now supply.old supply.new text result }
+    ensures part { (text : List ℕ) × W.took writer.old text writer.new
+        × IsWrittenOfBy W.tells S.gave S.met frame.now parameters.now supply.old supply.new text result }
 {
     let coding = open_coding(parameters);
     let coming = ComingImage {
@@ -171,13 +172,46 @@ fn put_rows<S: RowSupply, W: Write>(
     put_tiles(alloc, &coming, tiles, writer)
 }
 
-/// Writes the file of an image whose rows come in stripes one below the other, each of `step` rows
-/// but for the last one of a row of tiles, which may have fewer: the bytes that
+/// Encodes an image whose rows come in stripes one below the other, each of `step` rows but for the
+/// last one of a row of tiles, which may have fewer, into what takes its file: the bytes that
 /// [`encode`](crate::encode) gives of the whole image. It takes the memory of a stripe, of a row of
 /// code-blocks of each sub-band, and of what was coded.
 ///
-/// All rows are taken before anything is written, and also where the parameters are refused. The
-/// faults are those of the rows, and then those of [`encode_into`](crate::encode_into).
+/// All rows are taken before anything is passed on, and also where the parameters are refused. The
+/// faults are those of the rows, BadParameters, Limit and Memory as of [`encode`](crate::encode), and
+/// those that the sink tells: of a list no other than Memory.
+pub fn encode_rows_to<S: RowSupply, W: TextSink>(
+    alloc: Global,
+    frame: &PictureFrame,
+    parameters: &Parameters,
+    step: u32,
+    supply: &mut S,
+    writer: &mut W,
+) -> Result<(), Fault>
+    requires step { 1 ≤ step }
+    requires frame { IsPictureFrame frame.now }
+    requires framed { S.framed supply.old ≡ frame.now }
+    requires first { S.next supply.old ≡ frame.now.y0 }
+    // All rows of a picture came. The whole file is passed on, byte for byte what encoding gives; it
+    // means exactly the picture, and so do its layers.
+    ensures ok { OnOk result ((p : Picture) × WereAllGiven S.gave frame.now supply.old supply.new p
+        × (file : List ℕ) × (written p parameters.now ≡ Ok file)
+        × W.took writer.old file writer.new
+        × Means file 0 p × HasFronts p parameters.now file) }
+    // What was passed on, however it ended: a fault is what the supply met, what is due of the picture,
+    // Memory, or what the sink tells.
+    ensures part { (text : List ℕ) × W.took writer.old text writer.new
+        × IsWrittenOfBy W.tells S.gave S.met frame.now parameters.now supply.old supply.new text result }
+{
+    if let Err(fault) = parameters.check_frame(frame) {
+        drop_rows(alloc, frame, step, supply)?;
+        return Err(fault);
+    }
+    put_rows(alloc, frame, parameters, step, supply, writer)
+}
+
+/// What [`encode_rows_to`] gives, into a writer. The faults are those of the rows, and then those of
+/// [`encode_into`](crate::encode_into).
 pub fn encode_rows<S: RowSupply, W: Write>(
     alloc: Global,
     frame: &PictureFrame,
@@ -200,9 +234,6 @@ pub fn encode_rows<S: RowSupply, W: Write>(
     ensures part { (text : List ℕ) × Appends (W.contents writer.old) (W.contents writer.new) text
         × IsWrittenOf S.gave S.met frame.now parameters.now supply.old supply.new text result }
 {
-    if let Err(fault) = parameters.check_frame(frame) {
-        drop_rows(alloc, frame, step, supply)?;
-        return Err(fault);
-    }
-    put_rows(alloc, frame, parameters, step, supply, writer)
+    let mut sink = TextWriter { writer };
+    encode_rows_to(alloc, frame, parameters, step, supply, &mut sink)
 }

@@ -5,7 +5,6 @@ ghost use Rattle.jk_math.specs.Answer.{Answers};
 ghost use Rattle.jk_math.specs.Memory.{IsMemory};
 ghost use Rattle.jk_math.specs.Lists.{lists_of};
 ghost use Rattle.jk_math.specs.Picture.{Picture};
-ghost use Rattle.jk_math.specs.declared.fault.Fault.TheVariants.{Shelf};
 ghost use Rattle.jk_marks.specs.Siz.{IsSiz, tile_count, tiles_across};
 ghost use Rattle.jk_geom.specs.Rectangles.{IsArea};
 ghost use Rattle.jk_tile.specs.decoding.Decoded.{AreDecoded};
@@ -13,7 +12,8 @@ ghost use Rattle.jk_tile.specs.decoding.TileReading.{tested};
 ghost use Rattle.jk_rows.specs.Components.{IsStepEnd};
 ghost use Rattle.jk_code.specs.Meaning.{Means};
 ghost use Rattle.jk_code.specs.MeaningReading.{meaning_at, planes_of_tiles, tiles_tested};
-ghost use Rattle.jk_code.specs.Rows.{WereTaken, picture_of, tile_source, area_of_tile, part_of_stripe};
+ghost use Rattle.jk_code.specs.Rows.{WereTaken, WereRefused, AreRefused, AreTold, fault_of, picture_of, tile_source};
+ghost use Rattle.jk_code.specs.Rows.{area_of_tile, part_of_stripe};
 ghost use Rattle.jk_code.specs.Sources.{IsImageSource};
 ghost use Rattle.jk_code.specs.Rows.{HasFaultAt, IsFineTile, IsTileRow, IsRowWalk, IsTold, rows_left};
 
@@ -28,17 +28,24 @@ use jk_rows::TileRows;
 use jk_tile::{CodedTile, DecodedBlocks, judge_tile};
 use std::alloc::Global;
 
+/// How many rows are made at a time where no caller says it.
+pub(crate) const ROWS: u32 = 64;
+
 /// What takes the rows of an image, one stripe of them below the other.
 pub trait Rows {
     ghost use Rattle.jk_math.specs.Picture.{Picture};
+    ghost use Rattle.jk_math.specs.declared.fault.Fault.{Fault};
 
     // It was in the first state, took these rows, and is in the second.
     ghost took: { Self → Picture → Self → Type 0 };
 
-    /// Takes the next rows. It may refuse as a full disk does.
+    // It was in the first state, refused these rows with this fault, and is in the second.
+    ghost refused: { Self → Picture → Fault → Self → Type 0 };
+
+    /// Takes the next rows, or refuses them, as a full disk does.
     fn take(&mut self, alloc: Global, rows: Image) -> Result<(), Fault>
         ensures took { OnOk result (took self.old rows self.new) }
-        ensures cause { IfErr result (λ e. IsMemory e ⊎ (e ≡ Shelf)) };
+        ensures cause { IfErr result (λ e. IsMemory e ⊎ refused self.old rows e self.new) };
 }
 
 /// How many tiles lie side by side (T.800 B.3, equation B-5).
@@ -252,7 +259,8 @@ fn give_stripe<S: Rows>(
     // Behind the last row no code-block of the tiles has a fault.
     ensures fine { end ≡ (area_of_tile coded.now row.old.first).y1 → OnOk result
         ((k : ℕ) → k < tiles_across coded.now.headers.siz → IsFineTile coded.now (row.old.first + k)) }
-    ensures cause { IfErr result (λ e. IsMemory e ⊎ (e ≡ Shelf) ⊎ HasFaultAt coded.now e) }
+    ensures cause { IfErr result (λ e. IsMemory e
+        ⊎ WereRefused S.took S.refused (picture_of coded.now) y coded.now.area.y1 rows.old rows.new e ⊎ HasFaultAt coded.now e) }
 {
     let stripe = Rect {
         x0: coded.area.x0,
@@ -282,7 +290,8 @@ pub(crate) fn give_next<S: Rows>(
     ensures down { OnOk result (walk.old.y ≤ walk.new.y) }
     ensures less { OnOk result (rows_left coded.now walk.new < rows_left coded.now walk.old) }
     ensures taken { OnOk result (WereTaken S.took (picture_of coded.now) walk.old.y walk.new.y rows.old rows.new) }
-    ensures cause { IfErr result (λ e. IsMemory e ⊎ (e ≡ Shelf) ⊎ HasFaultAt coded.now e) }
+    ensures cause { IfErr result (λ e. IsMemory e
+        ⊎ WereRefused S.took S.refused (picture_of coded.now) walk.old.y coded.now.area.y1 rows.old rows.new e ⊎ HasFaultAt coded.now e) }
 {
     give_stripe(alloc, coded, &mut walk.row, walk.y, walk.end, decoded, rows)?;
     if walk.end < walk.area.y1 {
@@ -307,7 +316,8 @@ fn give_rows<S: Rows>(
         rows.old rows.new) }
     ensures fine { OnOk result (tiles_tested coded.now.bytes coded.now.headers coded.now.reduce
         (tile_count coded.now.headers.siz) ≡ Ok tt) }
-    ensures cause { IfErr result (λ e. IsMemory e ⊎ (e ≡ Shelf) ⊎ HasFaultAt coded.now e) }
+    ensures cause { IfErr result (λ e. IsMemory e
+        ⊎ WereRefused S.took S.refused (picture_of coded.now) coded.now.area.y0 coded.now.area.y1 rows.old rows.new e ⊎ HasFaultAt coded.now e) }
 {
     let none = DecodedBlocks::none(alloc);
     let mut walk = walk_from(alloc, coded, 0, step)?;
@@ -329,18 +339,15 @@ pub(crate) fn judge(alloc: Global, coded: &CodedImage<'_>) -> Result<(), Fault>
     Ok(())
 }
 
-/// What is told where the rows were given or weren't: the first fault of all code-blocks, whichever it
-/// was that ended the giving, and Shelf where they have none.
+/// What is told where the giving of rows ended so: the first fault of all code-blocks, whichever it was
+/// that ended the giving, and what ended it where they have none.
 pub(crate) fn told(
     alloc: Global,
     coded: &CodedImage<'_>,
     given: Result<(), Fault>,
 ) -> Result<(), Fault>
-    requires fine { IfOk given (λ _. tiles_tested coded.now.bytes coded.now.headers coded.now.reduce
-        (tile_count coded.now.headers.siz) ≡ Ok tt) }
-    requires cause { IfErr given (λ e. IsMemory e ⊎ (e ≡ Shelf) ⊎ HasFaultAt coded.now e) }
-    ensures exact { IsTold result (tiles_tested coded.now.bytes coded.now.headers coded.now.reduce
-        (tile_count coded.now.headers.siz)) }
+    requires fine { IfOk given (λ _. fault_of coded.now ≡ Ok tt) }
+    ensures exact { IsTold given result (fault_of coded.now) }
     ensures given { OnOk result (given ≡ Ok tt) }
 {
     match given {
@@ -353,6 +360,24 @@ pub(crate) fn told(
     }
 }
 
+/// Gives all rows of an image whose packets are read, and tells its first fault.
+pub(crate) fn all_rows<S: Rows>(
+    alloc: Global,
+    coded: &CodedImage<'_>,
+    step: u32,
+    rows: &mut S,
+) -> Result<(), Fault>
+    requires step { 1 ≤ step }
+    ensures exact { AreTold S.took S.refused coded.now rows.old rows.new result }
+    ensures taken { OnOk result (WereTaken S.took (picture_of coded.now) coded.now.area.y0 coded.now.area.y1
+        rows.old rows.new) }
+{
+    // What is read of it shows that it is sound.
+    let _area = coded.area;
+    let given = give_rows(alloc, coded, step, rows);
+    told(alloc, coded, given)
+}
+
 /// Gives the rows of the image that a file, a bare codestream or a JP2 file, means at a reduction, in
 /// stripes one below the other: each of `step` rows or one or two more, but for the last one of a row
 /// of tiles, which may have fewer. It takes the memory of a stripe and of a row of code-blocks of each
@@ -360,7 +385,7 @@ pub(crate) fn told(
 ///
 /// The faults are those of [`decode`](crate::decode) in their order: where a code-block has a fault,
 /// all are judged from the first one on. Rows were taken before that where those above the code-block
-/// have none. What refuses rows is told as it was, and as Shelf only where the file has no fault.
+/// have none. What the rows were refused with is told where the file has no fault.
 pub fn decode_rows<S: Rows>(
     alloc: Global,
     bytes: &[u8],
@@ -371,13 +396,12 @@ pub fn decode_rows<S: Rows>(
     requires step { 1 ≤ step }
     // Which fault is the first, or none; or the rows were refused, of a file that means a picture.
     ensures exact { Answers (λ _. tt) result (tested (meaning_at bytes.now reduce))
-        ⊎ ((result ≡ Err Shelf) × (p : Picture) × (meaning_at bytes.now reduce ≡ Ok p)) }
+        ⊎ AreRefused S.took S.refused (meaning_at bytes.now reduce) rows.old rows.new result }
     // All rows of the picture that the file means were taken.
     ensures taken { OnOk result ((p : Picture) × (meaning_at bytes.now reduce ≡ Ok p) × Means bytes.now reduce p
         × WereTaken S.took p p.y0 (p.y0 + p.height) rows.old rows.new) }
 {
     let read = read_image(alloc, bytes, reduce)?;
     let coded = read.coded(bytes);
-    let given = give_rows(alloc, &coded, step, rows);
-    told(alloc, &coded, given)
+    all_rows(alloc, &coded, step, rows)
 }

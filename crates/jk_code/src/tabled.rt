@@ -12,6 +12,7 @@ ghost use Rattle.jk_tile.specs.encoding.PacketsWritten.{written_coding};
 ghost use Rattle.jk_params.specs.PictureFrames.{frame_of};
 ghost use Rattle.jk_tile.specs.encoding.LateTables.{AreAlike};
 ghost use Rattle.jk_tile.specs.encoding.FallenTiles.{HasTileRoom};
+ghost use Rattle.jk_tile.specs.encoding.TilesFrom.{IsOutlineOf};
 ghost use Rattle.jk_tile.specs.declared.encoding.fallen_tile.FallenTile.{FallenTile};
 ghost use Rattle.std.specs.Global.{Vec};
 ghost use Rattle.jk_packet.specs.Written.{Table};
@@ -25,7 +26,7 @@ use jk_marks::{Coding, Exponents, Quantisation};
 use jk_math::Fault;
 use jk_packet::BlockTable;
 use jk_params::{coding_with, siz_for};
-use jk_tile::{FallenTile, TileOutline, exponents_with};
+use jk_tile::{FallenTile, TileOutline, exponents_with, packets_of};
 use std::alloc::Global;
 
 /// How many bits the greatest magnitude of each sub-band has, in all tiles and components.
@@ -102,6 +103,27 @@ pub(crate) fn all_tables(
     Ok(tables)
 }
 
+/// Tile `number` of an image, but for its samples, whose components are coded so.
+pub(crate) fn outline_at<'a>(
+    coming: &ComingImage<'a>,
+    coding: &'a Coding,
+    number: usize,
+) -> TileOutline<'a>
+    requires coming { IsComing coming.now }
+    requires number { number < tiles_coming coming.now }
+    ensures outline { (p : Picture) → IsPicture p → frame_of p ≡ coming.now.frame
+        → coding.now ≡ written_coding p coming.now.parameters.now → IsOutlineOf result p number }
+    ensures parameters { result.parameters.now ≡ coming.now.parameters.now }
+{
+    let siz = siz_for(&coming.frame, coming.parameters);
+    TileOutline {
+        parameters: coming.parameters,
+        coding,
+        rect: tile(&siz, number as u32),
+        components: coming.frame.components as usize,
+    }
+}
+
 /// The tiles of an image whose code-blocks are coded.
 #[derive(Drop)]
 pub(crate) struct TableTiles<'a> {
@@ -110,6 +132,8 @@ pub(crate) struct TableTiles<'a> {
     pub(crate) coding: &'a Coding,
     /// The tables of the precincts of each tile.
     pub(crate) tables: &'a [Vec<Vec<BlockTable>>],
+    /// Whether the packets of a tile are held while they are written, or made twice.
+    pub(crate) held: bool,
 }
 
 impl<'a> TileContents for TableTiles<'a> {
@@ -118,15 +142,12 @@ impl<'a> TileContents for TableTiles<'a> {
 
     ghost tells = { λ s p q. (s.coming.parameters.now ≡ q) × AreTablesOf s p };
 
-    fn content(&self, _alloc: Global, number: u32) -> Result<TileData<'_>, Fault> {
-        let siz = siz_for(&self.coming.frame, self.coming.parameters);
-        let outline = TileOutline {
-            parameters: self.coming.parameters,
-            coding: self.coding,
-            rect: tile(&siz, number),
-            components: self.coming.frame.components as usize,
-        };
+    fn content(&self, alloc: Global, number: u32) -> Result<TileData<'_>, Fault> {
+        let outline = outline_at(&self.coming, self.coding, number as usize);
         let tables = &self.tables[number as usize];
+        if self.held {
+            return Ok(TileData::Packets(packets_of(alloc, &outline, tables)?));
+        }
         Ok(TileData::Tables(TabledTile { outline, tables }))
     }
 }

@@ -1,33 +1,30 @@
-//! Encoding into a writer, tile by tile.
+//! Writing a file, tile by tile, into what takes its text.
 
 ghost use Rattle.std.specs.Prelude.{◌≡◌, ℕ, ◌+◌, ◌<◌, ◌≤◌, ◌^◌, ◌++◌, ◌⊎◌, List, length, nat_lt, true, Ok, IfOk, IfErr};
 ghost use Rattle.std.specs.Prelude.{OnOk};
-ghost use Rattle.std.specs.Io.KnownBytes.{Appends};
 ghost use Rattle.jk_math.specs.Memory.{IsMemory};
-ghost use Rattle.jk_math.specs.declared.fault.Fault.TheVariants.{Limit, Shelf};
+ghost use Rattle.jk_math.specs.declared.fault.Fault.TheVariants.{Limit};
 ghost use Rattle.jk_marks.specs.Siz.{tile_count};
 ghost use Rattle.jk_marks.specs.Codestream.{part_text, only_part_of};
 ghost use Rattle.jk_math.specs.Picture.{Picture};
-ghost use Rattle.jk_params.specs.Profile.{siz_of, is_profile, IsWrittenBy};
-ghost use Rattle.jk_tile.specs.encoding.Needs.{exponents_for};
+ghost use Rattle.jk_params.specs.Profile.{siz_of, is_profile};
 ghost use Rattle.jk_tile.specs.encoding.PacketsWritten.{tile_text};
 ghost use Rattle.jk_code.specs.Meaning.{Means};
 ghost use Rattle.jk_code.specs.Fronts.{HasFronts};
 ghost use Rattle.jk_code.specs.Written.{part_for, part_fits, parts_fit, written};
-ghost use Rattle.jk_code.specs.Beginnings.{front_of, parts_upto, text_upto, Left};
+ghost use Rattle.jk_code.specs.Beginnings.{front_of, parts_upto, text_upto, LeftBy};
 ghost use Rattle.jk_code.specs.Sending.{IsTooLong, IsTooLongAhead, IsSent, IsSentAsMade, IsPartSent, IsRestSent};
 ghost use Rattle.jk_code.specs.Contents.{HasPicture, HasTiles};
 ghost use Rattle.jk_code.specs.DataTold.{IsDataText};
 
-use crate::contents::{TileContents, WrittenFrame, count_tiles, frame_written};
+use crate::contents::{TileContents, WrittenFrame, count_tiles};
 use crate::encoding::main_header;
 use crate::tile_data::TileData;
 use jk_marks::{write_main, write_part_head};
-use jk_math::{Fault, Image, write_out};
-use jk_params::{Container, Parameters};
-use jk_tile::{Sequential, WrittenImage, encode_tile, exponents, write_packets};
+use jk_math::Fault;
+use jk_params::Container;
+use jk_tile::{TextSink, pass_tile};
 use std::alloc::Global;
-use std::io::Write;
 
 /// The last marker of a codestream, EOC (T.800 A.4.4).
 static EOC: [u8; 2] = [0xFF, 0xD9];
@@ -162,62 +159,56 @@ fn before_data<T: TileContents>(
     Ok(before)
 }
 
-/// Writes a text.
-///
-/// Shelf: a write failed or took nothing. A beginning of the text was written.
-fn send<W: Write>(writer: &mut W, text: &[u8]) -> Result<(), Fault>
-    ensures { (part : List ℕ) × Appends (W.contents writer.old) (W.contents writer.new) part
-        × IsSent text.now part result }
+/// Writes a text. Where a fault is told, a beginning of the text was written.
+fn send<W: TextSink>(writer: &mut W, text: &[u8]) -> Result<(), Fault>
+    ensures { (part : List ℕ) × W.took writer.old part writer.new
+        × IsSent W.tells text.now part result }
 {
-    if write_out(writer, text) {
-        Ok(())
-    } else {
-        Err(Fault::Shelf)
-    }
+    writer.take(text)
 }
 
 /// Writes the data of a tile.
 ///
-/// Memory: a header couldn't be made. Shelf: a write failed or took nothing. Then a beginning of the
-/// data was written.
-fn put_data<W: Write>(alloc: Global, writer: &mut W, content: &TileData<'_>) -> Result<(), Fault>
+/// Memory: a header couldn't be made. Then, and where the sink tells a fault, a beginning of the data was
+/// written.
+fn put_data<W: TextSink>(alloc: Global, writer: &mut W, content: &TileData<'_>) -> Result<(), Fault>
     requires some { (text : List ℕ) × IsDataText content.now text }
-    ensures { (part : List ℕ) × Appends (W.contents writer.old) (W.contents writer.new) part
-        × ((text : List ℕ) → IsDataText content.now text → IsSentAsMade text part result) }
+    ensures { (part : List ℕ) × W.took writer.old part writer.new
+        × ((text : List ℕ) → IsDataText content.now text → IsSentAsMade W.tells text part result) }
 {
     match content {
         TileData::Packets(text) => send(writer, text),
-        TileData::Tables(tile) => write_packets(alloc, &tile.outline, tile.tables, writer),
+        TileData::Tables(tile) => pass_tile(alloc, &tile.outline, tile.tables, writer),
     }
 }
 
 /// Writes the start of a file: what stands before the data of its first tile-part, and these data,
 /// which are let go of.
-fn put_start<W: Write>(
+fn put_start<W: TextSink>(
     alloc: Global,
     writer: &mut W,
     before: &[u8],
     first: TileData<'_>,
 ) -> Result<(), Fault>
     requires some { (text : List ℕ) × IsDataText first text }
-    ensures { (part : List ℕ) × Appends (W.contents writer.old) (W.contents writer.new) part
-        × ((text : List ℕ) → IsDataText first.entry text → IsSentAsMade (before.now ++ text) part result) }
+    ensures { (part : List ℕ) × W.took writer.old part writer.new
+        × ((text : List ℕ) → IsDataText first.entry text → IsSentAsMade W.tells (before.now ++ text) part result) }
 {
     send(writer, before)?;
     put_data(alloc, writer, &first)
 }
 
 /// Writes the only tile-part of a tile with these data.
-fn put_part<W: Write>(
+fn put_part<W: TextSink>(
     alloc: Global,
     writer: &mut W,
     tile: u16,
     content: &TileData<'_>,
 ) -> Result<(), Fault>
     requires some { (text : List ℕ) × IsDataText content.now text }
-    ensures { (part : List ℕ) × Appends (W.contents writer.old) (W.contents writer.new) part
+    ensures { (part : List ℕ) × W.took writer.old part writer.new
         × ((text : List ℕ) → IsDataText content.now text
-        → IsPartSent (part_text (only_part_of tile text)) (nat_lt (14 + length text) (2 ^ 32)) part result) }
+        → IsPartSent W.tells (part_text (only_part_of tile text)) (nat_lt (14 + length text) (2 ^ 32)) part result) }
 {
     let bytes = content.size(alloc)?;
     let head = part_head(alloc, tile, bytes)?;
@@ -226,7 +217,7 @@ fn put_part<W: Write>(
 }
 
 /// Writes the only tile-part of tile `number`.
-fn put_tile<T: TileContents, W: Write>(
+fn put_tile<T: TileContents, W: TextSink>(
     alloc: Global,
     source: &WrittenFrame<'_>,
     tiles: &T,
@@ -236,8 +227,8 @@ fn put_tile<T: TileContents, W: Write>(
     requires number { (p : Picture) × HasTiles T.tells source.now tiles.now p
         × (number < tile_count (siz_of p source.now.parameters.now)) }
     ensures { (p : Picture) → HasTiles T.tells source.now tiles.now p
-        → (part : List ℕ) × Appends (W.contents writer.old) (W.contents writer.new) part
-        × IsPartSent (part_text (part_for p source.now.parameters.now number))
+        → (part : List ℕ) × W.took writer.old part writer.new
+        × IsPartSent W.tells (part_text (part_for p source.now.parameters.now number))
         (part_fits p source.now.parameters.now number) part result }
 {
     let content = tiles.content(alloc, number)?;
@@ -245,7 +236,7 @@ fn put_tile<T: TileContents, W: Write>(
 }
 
 /// Writes the tile-parts of the tiles behind the first, one after another.
-fn put_rest<T: TileContents, W: Write>(
+fn put_rest<T: TileContents, W: TextSink>(
     alloc: Global,
     source: &WrittenFrame<'_>,
     tiles: &T,
@@ -254,8 +245,8 @@ fn put_rest<T: TileContents, W: Write>(
     requires some { (p : Picture) × HasTiles T.tells source.now tiles.now p }
     ensures { (p : Picture) → HasTiles T.tells source.now tiles.now p
         → part_fits p source.now.parameters.now 0 ≡ true
-        → (text : List ℕ) × Appends (W.contents writer.old) (W.contents writer.new) text
-        × IsRestSent p source.now.parameters.now text result }
+        → (text : List ℕ) × W.took writer.old text writer.new
+        × IsRestSent W.tells p source.now.parameters.now text result }
 {
     for number in 1..count_tiles(source) {
         put_tile(alloc, source, tiles, number, writer)?;
@@ -264,7 +255,7 @@ fn put_rest<T: TileContents, W: Write>(
 }
 
 /// Writes a file, whose first tile has these data.
-pub(crate) fn put_file<T: TileContents, W: Write>(
+pub(crate) fn put_file<T: TileContents, W: TextSink>(
     alloc: Global,
     source: &WrittenFrame<'_>,
     tiles: &T,
@@ -279,8 +270,8 @@ pub(crate) fn put_file<T: TileContents, W: Write>(
         → Means file 0 p × HasFronts p source.now.parameters.now file) }
     ensures part { (p : Picture) → HasTiles T.tells source.now tiles.now p
         → is_profile source.now.parameters.now p ≡ true
-        → (text : List ℕ) × Appends (W.contents writer.old) (W.contents writer.new) text
-        × Left p source.now.parameters.now text result }
+        → (text : List ℕ) × W.took writer.old text writer.new
+        × LeftBy W.tells p source.now.parameters.now text result }
 {
     let before = before_data(alloc, source, tiles, &first)?;
     put_start(alloc, writer, &before, first)?;
@@ -289,7 +280,7 @@ pub(crate) fn put_file<T: TileContents, W: Write>(
 }
 
 /// Writes a file, whose tiles are these.
-pub(crate) fn put_contents<T: TileContents, W: Write>(
+pub(crate) fn put_contents<T: TileContents, W: TextSink>(
     alloc: Global,
     source: &WrittenFrame<'_>,
     tiles: &T,
@@ -301,65 +292,9 @@ pub(crate) fn put_contents<T: TileContents, W: Write>(
         → Means file 0 p × HasFronts p source.now.parameters.now file) }
     ensures part { (p : Picture) → HasTiles T.tells source.now tiles.now p
         → is_profile source.now.parameters.now p ≡ true
-        → (text : List ℕ) × Appends (W.contents writer.old) (W.contents writer.new) text
-        × Left p source.now.parameters.now text result }
+        → (text : List ℕ) × W.took writer.old text writer.new
+        × LeftBy W.tells p source.now.parameters.now text result }
 {
     let first = tiles.content(alloc, 0)?;
     put_file(alloc, source, tiles, first, writer)
-}
-
-/// Codes an image and writes its file.
-fn put_image<W: Write>(
-    alloc: Global,
-    image: &Image,
-    parameters: &Parameters,
-    writer: &mut W,
-) -> Result<(), Fault>
-    requires profile { is_profile parameters.now image.now ≡ true }
-    requires written { IsWrittenBy parameters.now image.now }
-    ensures means { OnOk result ((file : List ℕ) → written image.now parameters.now ≡ Ok file
-        → Means file 0 image.now × HasFronts image.now parameters.now file) }
-    ensures part { (text : List ℕ) × Appends (W.contents writer.old) (W.contents writer.new) text
-        × Left image.now parameters.now text result }
-{
-    let (exponents, bands) = exponents(&Sequential, alloc, image, parameters)?;
-    let source = WrittenImage {
-        image,
-        parameters,
-        exponents: &exponents,
-    };
-    let first = encode_tile(&Sequential, alloc, &source, 0, bands)?;
-    let first = TileData::Packets(first);
-    put_file(alloc, &frame_written(&source), &source, first, writer)
-}
-
-/// Writes the file of an image, a bare codestream or a JP2 file as the parameters say: the bytes
-/// that [`encode`](crate::encode) gives. The packets of one tile are held at a time.
-///
-/// The front of a JP2 file says how long its codestream is: where there is more than one tile, all
-/// but the first are coded once for that, and once more to be written.
-///
-/// BadParameters: an image and parameters outside the profile, as `Parameters::check` says; nothing
-/// is written. Limit: a tile-part would be longer than 2^32 - 1 bytes; of a JP2 file nothing is
-/// written, of a bare codestream what stands before the tile-part. Shelf: a write failed or took
-/// nothing. After Memory and Shelf a beginning of the file is written.
-pub fn encode_into<W: Write>(
-    alloc: Global,
-    image: &Image,
-    parameters: &Parameters,
-    writer: &mut W,
-) -> Result<(), Fault>
-    // The whole file is written, byte for byte what encoding gives.
-    ensures ok { OnOk result
-        ((file : List ℕ) × (written image.now parameters.now ≡ Ok file)
-        × Appends (W.contents writer.old) (W.contents writer.new) file) }
-    // It means exactly the image, and so do its layers.
-    ensures means { OnOk result ((file : List ℕ) → written image.now parameters.now ≡ Ok file
-        → Means file 0 image.now × HasFronts image.now parameters.now file) }
-    // What was written, however it ended.
-    ensures part { (text : List ℕ) × Appends (W.contents writer.old) (W.contents writer.new) text
-        × Left image.now parameters.now text result }
-{
-    parameters.check(image)?;
-    put_image(alloc, image, parameters, writer)
 }

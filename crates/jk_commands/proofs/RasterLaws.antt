@@ -1,20 +1,19 @@
 -- The rasters of stripes, one behind another, are the raster of the picture.
 use Rattle.std.proofs.Common.{◌≡◌, ℕ, zero, suc, ◌+◌, ◌-◌, ◌*◌, ◌<◌, ◌≤◌, true, List, [], ◌∷◌, ◌++◌, length, get_or, ℤ, pos, Option, refl, sym, ap, subst, ◌∙◌, arith}
 use Rattle.std.specs.List.{flat_map, range_with_len}
-use Rattle.std.specs.Global.{Vec}
 use Rattle.std.specs.Io.KnownBytes.{Appends}
+use Rattle.std.proofs.lemmas.List.{append_assoc}
 use Rattle.std.proofs.lemmas.List.Concat.{flat_map-append}
+use Rattle.jk_math.specs.Front.{IsFront}
+use Rattle.jk_math.specs.declared.fault.Fault.{Fault}
 use Rattle.jk_math.specs.Picture.{Picture, is_grey_or_rgb}
 use Rattle.jk_math.proofs.Laws.{appends_none, appends_join}
 use Rattle.jk_pnm.specs.Written.{is_written, maxval_of, sample_text, pixel_text, raster_part, raster_text}
-use Rattle.jk_pnm.specs.Rasters.{AreRastersOf, pieces_text}
-use Rattle.jk_code.specs.declared.making.MadeStripes.{MadeStripes}
-use Rattle.jk_code.specs.Made.{rows_of, AreMade, IsMadeOf}
-use Rattle.jk_code.specs.Rows.{AreTaken, WereTaken}
+use Rattle.jk_code.specs.Made.{rows_of}
+use Rattle.jk_code.specs.Rows.{AreTaken, WereTaken, WereRefused}
 use Rattle.jk_code.proofs.Laws.{rows_components, rows_sample}
 use Rattle.jk_commands.specs.declared.decoding_rows.RowWriter.{RowWriter}
-use Rattle.jk_commands.specs.Rasters.{IsRasterOf}
-use Rattle.jk_commands.specs.RowWriting.{IsRasterBehind}
+use Rattle.jk_commands.specs.RowWriting.{HasFront, IsRasterBehind, IsRasterBroken}
 
 range_joined : (n m a : ℕ) → range_with_len a (n + m) ≡ range_with_len a n ++ range_with_len (a + n) m
 range_joined zero m a = let same : a ≡ a + 0 = omega arith in let none : zero + m ≡ m = omega arith in ap (range_with_len a) none ∙ ap (λ (k : ℕ). range_with_len k m) same
@@ -112,30 +111,6 @@ rows_all p =
     let all : (p.y0 + p.height - p.y0) * p.width ≡ p.width * p.height = ap (λ t. t * p.width) (let z : p.y0 + p.height - p.y0 ≡ p.height = omega arith in z) ∙ (let z : p.height * p.width ≡ p.width * p.height = grind arith in z) in
     ap (λ (t : ℕ). raster_part (maxval_of p.depth) p.planes t ((p.y0 + p.height - p.y0) * p.width)) from ∙ ap (raster_part (maxval_of p.depth) p.planes 0) all
 
-rasters_from : (p : Picture) (y : ℕ) (made : List (Vec ℕ)) → is_written p ≡ true → p.y0 ≤ y → AreMade IsRasterOf p y made → pieces_text made ≡ rows_part p y (p.y0 + p.height)
-rasters_from p y [] is low e = sym (ap (rows_part p y) (sym e) ∙ rows_none p y)
-rasters_from p y (m ∷ made) is low are =
-    let z = are.0 in
-    let order : y ≤ z = (let lt = are.1 in omega (arith, lt)) in
-    let here : m.items ≡ rows_part p y z = are.3 (rows_written p y z is) ∙ stripe_raster p y z low order in
-    let more = rasters_from p z made is (omega (arith, low, order)) are.4 in
-    ap (λ (xs : List ℕ). xs ++ pieces_text made) here ∙ ap (λ (xs : List ℕ). rows_part p y z ++ xs) more ∙ rows_joined p y z (p.y0 + p.height) low order are.2
-
--- What is made of all stripes is the raster of the picture.
-pub all_rasters : (p : Picture) (made : List (Vec ℕ)) → is_written p ≡ true → AreMade IsRasterOf p p.y0 made → pieces_text made ≡ raster_text (maxval_of p.depth) p.planes (p.width * p.height)
-all_rasters p made is are = rasters_from p p.y0 made is (omega arith) are ∙ rows_all p
-
-pub made_rasters : (p : Picture) (m : MadeStripes (Vec ℕ)) (pieces : List (Vec ℕ)) → IsMadeOf IsRasterOf p m → pieces ≡ m.made.items
-    → AreRastersOf (record { components = m.frame.components; signed = m.frame.signed; width = m.frame.width; height = m.frame.height; depth = m.frame.depth }) pieces p
-made_rasters p m pieces is same = record {
-  components = is.frame.components;
-  signed = is.frame.signed;
-  width = is.frame.width;
-  height = is.frame.height;
-  depth = is.frame.depth;
-  raster = λ written. ap pieces_text same ∙ all_rasters p m.made.items written is.made;
-}
-
 -- ---- stripes that a writer got
 
 rows_behind : {W : Type 0} (contents : W → Option (List ℕ)) (p : Picture) (y z : ℕ) (a b : RowWriter W) (stripes : List (ℕ × RowWriter W)) → is_written p ≡ true → p.y0 ≤ y → AreTaken (IsRasterBehind contents) p y z a stripes b
@@ -163,3 +138,31 @@ named contents p y z a b (s ∷ stripes) h = named contents p s.0 z s.1 b stripe
 -- It is still the same one.
 pub same_writer : {W : Type 0} (contents : W → Option (List ℕ)) (p : Picture) (y z : ℕ) (a b : RowWriter W) → WereTaken (IsRasterBehind contents) p y z a b → b.writer.ghost_name ≡ a.writer.ghost_name
 same_writer contents p y z a b taken = named contents p y z a b taken.0 taken.1
+
+-- What a writer has whose write failed behind other stripes: a beginning of the raster of the picture.
+pub rows_broken : {W : Type 0} (contents : W → Option (List ℕ)) (p : Picture) (a b : RowWriter W) (e : Fault) → is_written p ≡ true → WereRefused (IsRasterBehind contents) (IsRasterBroken contents) p p.y0 (p.y0 + p.height) a b e
+    → HasFront (raster_text (maxval_of p.depth) p.planes (p.width * p.height)) (contents a.writer.now) (contents b.writer.now)
+rows_broken contents p a b e is why =
+    let y : ℕ = p.y0 in
+    let n = why.next in
+    let m = why.last in
+    let end : ℕ = p.y0 + p.height in
+    let low = why.low in
+    let more = why.more in
+    let order : n ≤ m = omega (arith, more) in
+    let broken = why.why.2 (rows_written p n m is) in
+    let front = subst (IsFront broken.0) (stripe_raster p n m low order) broken.2 in
+    let before = rows_behind contents p y n a why.before why.taken.0 is (omega arith) why.taken.1 in (
+      rows_part p y n ++ broken.0,
+      appends_join (contents a.writer.now) (contents why.before.writer.now) (contents b.writer.now) (rows_part p y n) broken.0 before broken.1,
+      record {
+        more = front.more ++ rows_part p m end;
+        text = sym (rows_all p) ∙ sym (rows_joined p y m end (omega arith) (omega (arith, low, order)) why.high)
+            ∙ ap (λ (xs : List ℕ). xs ++ rows_part p m end) (sym (rows_joined p y n m (omega arith) low order) ∙ ap (λ (xs : List ℕ). rows_part p y n ++ xs) front.text ∙ sym (append_assoc (rows_part p y n) broken.0 front.more))
+            ∙ append_assoc (rows_part p y n ++ broken.0) front.more (rows_part p m end);
+      },
+    )
+
+-- It is still the same one.
+pub same_broken : {W : Type 0} (contents : W → Option (List ℕ)) (p : Picture) (y z : ℕ) (a b : RowWriter W) (e : Fault) → WereRefused (IsRasterBehind contents) (IsRasterBroken contents) p y z a b e → b.writer.ghost_name ≡ a.writer.ghost_name
+same_broken contents p y z a b e why = why.why.1 ∙ same_writer contents p y why.next a why.before why.taken

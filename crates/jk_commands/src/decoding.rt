@@ -1,12 +1,10 @@
 //! Decoding to a PGM or PPM file.
 
-ghost use Rattle.std.specs.Prelude.{◌≡◌, ◌≤◌, ℕ, List, Ok, Err, IfOk, OnOk};
-ghost use Rattle.std.specs.Io.KnownBytes.{Appends};
+ghost use Rattle.std.specs.Prelude.{◌≡◌, ◌≤◌, Ok, Err, IfOk};
 ghost use Rattle.jk_math.specs.Answer.{Answers};
 ghost use Rattle.jk_math.specs.Picture.{Picture};
 ghost use Rattle.jk_math.specs.declared.fault.Fault.TheVariants.{BadParameters};
 ghost use Rattle.jk_pnm.specs.Pnm.{IsPnm};
-ghost use Rattle.jk_pnm.specs.Sending.{IsLeftBySending};
 ghost use Rattle.jk_pnm.specs.Written.{written as pnm_of};
 ghost use Rattle.jk_code.specs.Meaning.{Means};
 ghost use Rattle.jk_code.specs.MeaningReading.{meaning_at};
@@ -15,9 +13,7 @@ ghost use Rattle.jk_commands.specs.Commands.{decoded};
 
 use jk_code::decode;
 use jk_math::{Fault, Image};
-use jk_pnm::write_into;
 use std::alloc::Global;
-use std::io::Write;
 
 /// The image that a file means. The file is let go of.
 fn decode_image(alloc: Global, bytes: Vec<u8>, reduce: u32) -> Result<Image, Fault>
@@ -43,31 +39,6 @@ pub fn decode_file(alloc: Global, bytes: Vec<u8>, reduce: u32) -> Result<Vec<u8>
 {
     let image = decode_image(alloc, bytes, reduce)?;
     jk_pnm::write(alloc, &image)
-}
-
-/// Writes what `jk decode` makes of a file, a few rows at a time: the bytes that [`decode_file`]
-/// gives.
-///
-/// The faults are those of [`decode_file`] in their order, and Shelf: a write failed or took
-/// nothing. Nothing is written before the image is whole. Before that, the file is let go of.
-pub fn decode_file_into<W: Write>(
-    alloc: Global,
-    bytes: Vec<u8>,
-    reduce: u32,
-    writer: &mut W,
-) -> Result<(), Fault>
-    // What was written, however it ended.
-    ensures exact { (text : List ℕ) × Appends (W.contents writer.old) (W.contents writer.new) text
-        × IsLeftBySending (decoded bytes.items reduce) text result }
-    // A whole file is one of the picture that the file means.
-    ensures found { OnOk result ((p : Picture) × Means bytes.items reduce p
-        × ((file : List ℕ) → decoded bytes.items reduce ≡ Ok file → IsPnm file (at_place p 0 0))) }
-    // Of a file that means a picture, the picture's file is written.
-    ensures only { (p : Picture) → Means bytes.items reduce p
-        → (text : List ℕ) × Appends (W.contents writer.old) (W.contents writer.new) text × IsLeftBySending (pnm_of p) text result }
-{
-    let image = decode_image(alloc, bytes, reduce)?;
-    write_into(alloc, &image, writer)
 }
 
 /// How many workers are asked for. BadParameters: none, or more than 64.

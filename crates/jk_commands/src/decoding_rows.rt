@@ -13,9 +13,10 @@ ghost use Rattle.jk_code.specs.MeaningReading.{meaning_at};
 ghost use Rattle.jk_options.specs.Plans.{at_place};
 ghost use Rattle.jk_commands.specs.Commands.{decoded};
 ghost use Rattle.jk_commands.specs.Rasters.{IsRasterFrameOf};
+ghost use Rattle.jk_commands.specs.RowWriting.{HasFront, HasBegun};
 
-use crate::row_decoders::{Alone, Beside, ROWS, RowDecoder};
-use jk_code::{Rows, decode, decode_rows, frame};
+use crate::row_decoders::{Alone, Beside, RowDecoder};
+use jk_code::{Rows, frame, judge_file};
 use jk_math::{Fault, Image};
 use jk_pnm::{RasterFrame, write_head_into, write_raster_into};
 use jk_tile::Workers;
@@ -24,18 +25,6 @@ use std::io::Write;
 use std::marker::Sync;
 use std::thread::Threads;
 
-/// What drops all rows: a file is judged by it.
-#[derive(Drop)]
-struct Dropped;
-
-impl Rows for Dropped {
-    ghost took = { λ _ _ _. Unit {0} };
-
-    fn take(&mut self, alloc: Global, rows: Image) -> Result<(), Fault> {
-        Ok(())
-    }
-}
-
 /// A writer that gets the raster of the rows of each stripe, one behind another.
 #[derive(Drop)]
 struct RowWriter<'a, W> {
@@ -43,9 +32,11 @@ struct RowWriter<'a, W> {
 }
 
 impl<'a, W: Write> Rows for RowWriter<'a, W> {
-    ghost use Rattle.jk_commands.specs.RowWriting.{IsRasterBehind};
+    ghost use Rattle.jk_commands.specs.RowWriting.{IsRasterBehind, IsRasterBroken};
 
     ghost took = { IsRasterBehind W.contents };
+
+    ghost refused = { IsRasterBroken W.contents };
 
     fn take(&mut self, alloc: Global, rows: Image) -> Result<(), Fault> {
         write_raster_into(alloc, &rows, self.writer)
@@ -68,21 +59,6 @@ fn raster_frame(alloc: Global, bytes: &[u8], reduce: u32) -> Result<RasterFrame,
     })
 }
 
-/// The first fault of a file, if it has one, all of whose rows are decoded and dropped.
-fn judge(alloc: Global, bytes: &[u8], reduce: u32) -> Result<(), Fault>
-    ensures { Answers (λ _. tt) result (tested (meaning_at bytes.now reduce)) }
-{
-    match decode_rows(alloc, bytes, reduce, ROWS, &mut Dropped) {
-        // Neither what drops rows nor a file tells Shelf. The clauses of `decode_rows` don't say so,
-        // and so the whole image would tell which of them it was.
-        Err(Fault::Shelf) => {
-            decode(alloc, bytes, reduce)?;
-            Ok(())
-        }
-        told => told,
-    }
-}
-
 /// Writes the head of the file of an image. Where a write fails, the image is judged, since a fault
 /// of its file goes before Shelf.
 fn write_head<W: Write>(
@@ -96,13 +72,15 @@ fn write_head<W: Write>(
     ensures head { OnOk result (Appends (W.contents writer.old) (W.contents writer.new)
         (header_text (frame.now.components == 3) frame.now.width frame.now.height (maxval_of frame.now.depth))) }
     ensures err { IfErr result (λ e. Refuses e (meaning_at bytes.now reduce)
-        ⊎ ((e ≡ Shelf) × (p : Picture) × (meaning_at bytes.now reduce ≡ Ok p))) }
+        ⊎ ((e ≡ Shelf) × (p : Picture) × (meaning_at bytes.now reduce ≡ Ok p)
+        × HasFront (header_text (frame.now.components == 3) frame.now.width frame.now.height (maxval_of frame.now.depth))
+        (W.contents writer.old) (W.contents writer.new))) }
 {
     match write_head_into(alloc, frame, writer) {
         Ok(()) => Ok(()),
         Err(Fault::Memory(refused)) => Err(Fault::Memory(refused)),
         Err(fault) => {
-            judge(alloc, bytes, reduce)?;
+            judge_file(alloc, bytes, reduce)?;
             Err(fault)
         }
     }
@@ -121,7 +99,9 @@ fn write_rows<D: RowDecoder, W: Write>(
         × (is_written p ≡ true → Appends (W.contents writer.old) (W.contents writer.new)
         (raster_text (maxval_of p.depth) p.planes (p.width * p.height)))) }
     ensures err { IfErr result (λ e. Refuses e (meaning_at bytes.now reduce)
-        ⊎ ((e ≡ Shelf) × (p : Picture) × (meaning_at bytes.now reduce ≡ Ok p))) }
+        ⊎ ((e ≡ Shelf) × (p : Picture) × (meaning_at bytes.now reduce ≡ Ok p)
+        × (is_written p ≡ true → HasFront (raster_text (maxval_of p.depth) p.planes (p.width * p.height))
+        (W.contents writer.old) (W.contents writer.new)))) }
 {
     let mut rows = RowWriter { writer };
     decoder.decode(alloc, bytes, reduce, &mut rows)
@@ -137,14 +117,14 @@ fn write_file<D: RowDecoder, W: Write>(
 ) -> Result<(), Fault>
     requires ready { D.ready decoder.now }
     ensures exact { Answers (λ _. tt) result (tested (decoded bytes.now reduce))
-        ⊎ ((result ≡ Err Shelf) × (file : List ℕ) × (decoded bytes.now reduce ≡ Ok file)) }
+        ⊎ ((result ≡ Err Shelf) × HasBegun (decoded bytes.now reduce) (W.contents writer.old) (W.contents writer.new)) }
     ensures written { OnOk result ((file : List ℕ) × (decoded bytes.now reduce ≡ Ok file)
         × Appends (W.contents writer.old) (W.contents writer.new) file) }
     ensures meaning { OnOk result ((p : Picture) × (meaning_at bytes.now reduce ≡ Ok p) × Means bytes.now reduce p) }
 {
     let frame = raster_frame(alloc, bytes, reduce)?;
     if !frame.has_file() {
-        judge(alloc, bytes, reduce)?;
+        judge_file(alloc, bytes, reduce)?;
         return Err(Fault::Unsupported);
     }
     write_head(alloc, bytes, reduce, &frame, writer)?;
@@ -163,20 +143,22 @@ pub fn decode_rows_into<W: Write>(
     reduce: u32,
     writer: &mut W,
 ) -> Result<(), Fault>
-    // Which fault is the first, or none; or a write failed, of a file that is due.
+    // Which fault is the first, or none; or a write failed, of a file that is due, whose beginning was
+    // written.
     ensures exact { Answers (λ _. tt) result (tested (decoded bytes.now reduce))
-        ⊎ ((result ≡ Err Shelf) × (file : List ℕ) × (decoded bytes.now reduce ≡ Ok file)) }
+        ⊎ ((result ≡ Err Shelf) × HasBegun (decoded bytes.now reduce) (W.contents writer.old) (W.contents writer.new)) }
     // What was written where there is no fault.
     ensures written { OnOk result ((file : List ℕ) × (decoded bytes.now reduce ≡ Ok file)
         × Appends (W.contents writer.old) (W.contents writer.new) file) }
     // It is a file of the picture that the bytes mean.
     ensures found { OnOk result ((p : Picture) × Means bytes.now reduce p
         × ((file : List ℕ) → decoded bytes.now reduce ≡ Ok file → IsPnm file (at_place p 0 0))) }
-    // Of a file that means a picture, the picture's file is written, or it has none.
+    // Of a file that means a picture, the picture's file is written, or it has none, or a write failed.
     ensures only { (p : Picture) → Means bytes.now reduce p
         → OnOk result ((file : List ℕ) × (pnm_of p ≡ Ok file)
         × Appends (W.contents writer.old) (W.contents writer.new) file)
-        × IfErr result (λ e. Refuses e (pnm_of p) ⊎ ((e ≡ Shelf) × (file : List ℕ) × (pnm_of p ≡ Ok file))) }
+        × IfErr result (λ e. Refuses e (pnm_of p)
+        ⊎ ((e ≡ Shelf) × HasBegun (pnm_of p) (W.contents writer.old) (W.contents writer.new))) }
 {
     write_file(&Alone, alloc, bytes, reduce, writer)
 }
@@ -195,20 +177,22 @@ pub fn decode_rows_into_with<R: Threads + Sync, W: Write>(
 ) -> Result<(), Fault>
     ensures range { (1 ≤ workers → workers ≤ 64 → ⊥) → (result ≡ Err BadParameters)
         × Appends (W.contents writer.old) (W.contents writer.new) [] }
-    // Which fault is the first, or none; or a write failed, of a file that is due.
+    // Which fault is the first, or none; or a write failed, of a file that is due, whose beginning was
+    // written.
     ensures exact { 1 ≤ workers → workers ≤ 64 → Answers (λ _. tt) result (tested (decoded bytes.now reduce))
-        ⊎ ((result ≡ Err Shelf) × (file : List ℕ) × (decoded bytes.now reduce ≡ Ok file)) }
+        ⊎ ((result ≡ Err Shelf) × HasBegun (decoded bytes.now reduce) (W.contents writer.old) (W.contents writer.new)) }
     // What was written where there is no fault.
     ensures written { OnOk result ((file : List ℕ) × (decoded bytes.now reduce ≡ Ok file)
         × Appends (W.contents writer.old) (W.contents writer.new) file) }
     // It is a file of the picture that the bytes mean.
     ensures found { OnOk result ((p : Picture) × Means bytes.now reduce p
         × ((file : List ℕ) → decoded bytes.now reduce ≡ Ok file → IsPnm file (at_place p 0 0))) }
-    // Of a file that means a picture, the picture's file is written, or it has none.
+    // Of a file that means a picture, the picture's file is written, or it has none, or a write failed.
     ensures only { 1 ≤ workers → workers ≤ 64 → (p : Picture) → Means bytes.now reduce p
         → OnOk result ((file : List ℕ) × (pnm_of p ≡ Ok file)
         × Appends (W.contents writer.old) (W.contents writer.new) file)
-        × IfErr result (λ e. Refuses e (pnm_of p) ⊎ ((e ≡ Shelf) × (file : List ℕ) × (pnm_of p ≡ Ok file))) }
+        × IfErr result (λ e. Refuses e (pnm_of p)
+        ⊎ ((e ≡ Shelf) × HasBegun (pnm_of p) (W.contents writer.old) (W.contents writer.new))) }
 {
     if workers < 1 || 64 < workers {
         return Err(Fault::BadParameters);

@@ -1,10 +1,9 @@
 //! Encoding a PGM or PPM file.
 
-ghost use Rattle.std.specs.Prelude.{◌≡◌, ◌≤◌, ℕ, List, Ok, Err, IfOk, OnOk};
+ghost use Rattle.std.specs.Prelude.{◌≡◌, ℕ, List, Ok, IfOk, OnOk};
 ghost use Rattle.std.specs.Io.KnownBytes.{Appends};
 ghost use Rattle.jk_math.specs.Answer.{Answers};
 ghost use Rattle.jk_math.specs.Picture.{Picture};
-ghost use Rattle.jk_math.specs.declared.fault.Fault.TheVariants.{BadParameters};
 ghost use Rattle.jk_pnm.specs.Pnm.{IsPnm};
 ghost use Rattle.jk_pnm.specs.Reading.{pnm_at};
 ghost use Rattle.jk_code.specs.Meaning.{Means};
@@ -12,13 +11,11 @@ ghost use Rattle.jk_options.specs.Plans.{at_place};
 ghost use Rattle.jk_commands.specs.Commands.{encoded};
 ghost use Rattle.jk_commands.specs.Written.{LeftOf};
 
-use jk_code::{encode, encode_into, encode_with};
-use jk_jobs::Gate;
+use jk_code::{encode, encode_into};
 use jk_math::{Fault, Image};
 use jk_options::Plan;
 use std::alloc::Global;
 use std::io::Write;
-use std::thread::Threads;
 
 /// The image of a PGM or PPM file, as `jk_pnm::read` gives it. The file is let go of, one of grey
 /// samples of a byte while they are made.
@@ -52,38 +49,6 @@ pub fn encode_file(alloc: Global, bytes: Vec<u8>, plan: Plan) -> Result<Vec<u8>,
     let image = read_image(alloc, bytes)?;
     let placed = plan.place(image)?;
     encode(alloc, &placed.image, &placed.parameters)
-}
-
-/// What `jk encode` writes of a PGM or PPM file, coded by so many workers side by side: what
-/// [`encode_file`] gives, and its first fault.
-///
-/// BadParameters, before all else: less than one worker or more than 64.
-#[tactic(auto, unfolding(crate::specs::Commands::encoded, jk_options::specs::Plans::placing))]
-pub fn encode_file_with<R: Threads + Sync, G: Gate + Sync>(
-    rt: &R,
-    alloc: Global,
-    workers: usize,
-    gate: &G,
-    bytes: Vec<u8>,
-    plan: Plan,
-) -> Result<Vec<u8>, Fault>
-    ensures range { (1 ≤ workers → workers ≤ 64 → ⊥) → result ≡ Err BadParameters }
-    // Which bytes, or which fault is the first.
-    ensures exact { 1 ≤ workers → workers ≤ 64 → Answers (λ v. v.items) result (encoded bytes.items plan) }
-    // Of a file of a picture, what is written means exactly that picture, placed as it is asked
-    // for.
-    ensures means { (p : Picture) → IsPnm bytes.items p
-        → IfOk result (λ v. Means v.items 0 (at_place p plan.x0 plan.y0)) }
-    // Nothing is written of other bytes.
-    ensures found { IfOk result (λ v. (p : Picture) × IsPnm bytes.items p
-        × Means v.items 0 (at_place p plan.x0 plan.y0)) }
-{
-    if workers < 1 || 64 < workers {
-        return Err(Fault::BadParameters);
-    }
-    let image = read_image(alloc, bytes)?;
-    let placed = plan.place(image)?;
-    encode_with::<R, G>(rt, alloc, workers, gate, &placed.image, &placed.parameters)
 }
 
 /// Writes what `jk encode` makes of a PGM or PPM file, tile by tile: the bytes that [`encode_file`]

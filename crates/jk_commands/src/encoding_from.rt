@@ -166,10 +166,6 @@ fn has_no_head<S: Read>(incoming: &Incoming<'_, S>) -> bool
     no_header(incoming.waiting()).is_some()
 }
 
-/// How often the beginning of a file is read for its head at most, with twice as many bytes each time:
-/// memory has room for fewer than 2^63 of them.
-const TURNS: u32 = 64;
-
 /// The head of a file, whose bytes are taken. No more of the file is read than tells whether it has
 /// one.
 ///
@@ -182,7 +178,7 @@ fn head_of<S: Read>(incoming: &mut Incoming<'_, S>) -> Result<RasterHead, Fault>
     ensures fault { IfErr result (λ e. IsMemory e ⊎ (e ≡ Shelf) ⊎ (e ≡ BadPnm)) }
 {
     let mut asked = 1;
-    for _turn in 0..TURNS {
+    loop {
         let there = are_there(incoming, asked)?;
         if let Some((head, size)) = waiting_head(incoming) {
             incoming.take(size);
@@ -191,9 +187,8 @@ fn head_of<S: Read>(incoming: &mut Incoming<'_, S>) -> Result<RasterHead, Fault>
         if !there || has_no_head(incoming) {
             return Err(Fault::BadPnm);
         }
-        asked = incoming.waiting().len().saturating_mul(2);
+        asked = incoming.waiting().len() * 2;
     }
-    Err(Fault::Shelf)
 }
 
 /// The frame of the image of a file, with its upper left sample at (0, 0).

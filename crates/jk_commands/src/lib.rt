@@ -7,7 +7,6 @@ mod comparing;
 mod cutting;
 mod decoding;
 mod decoding_rows;
-mod decoding_with;
 mod dressing;
 mod encoding;
 mod encoding_from;
@@ -25,17 +24,15 @@ mod viewing;
 
 pub use comparing::{Change, Difference, differences, differences_text};
 pub use cutting::cut_file;
-pub use decoding::{check_workers, decode_file, decode_file_into};
+pub use decoding::{check_workers, decode_file};
 pub use decoding_rows::{decode_rows_into, decode_rows_into_with};
-pub use decoding_with::decode_file_into_with;
 pub use dressing::{
     components_of, dress_file, encode_file_dressed, encode_file_dressed_with, encode_image_dressed,
     encode_image_dressed_into, encode_image_dressed_with,
 };
-pub use encoding::{encode_file, encode_file_into, encode_file_with, read_image};
+pub use encoding::{encode_file, encode_file_into, read_image};
 pub use encoding_from::encode_rows_from;
 pub use encoding_rows::encode_rows_into;
-pub use jk_code::suits_rows;
 pub use jk_options::{EncodeOptions, Placed, Plan, judge, order_name, order_named};
 pub use layers::first_layers;
 pub use sums::{BadList, Sum, read_sums, sums_text};

@@ -1,14 +1,13 @@
 //! Who decodes the rows of a file: this thread alone, or workers beside it.
 
-ghost use Rattle.std.specs.Prelude.{◌≡◌, ◌+◌, ◌≤◌, ◌⊎◌, Ok, Err, OnOk};
+ghost use Rattle.std.specs.Prelude.{◌≡◌, ◌+◌, ◌≤◌, ◌⊎◌, Ok, OnOk};
 ghost use Rattle.std.specs.Thread.{IsSync};
 ghost use Rattle.jk_math.specs.Answer.{Answers};
 ghost use Rattle.jk_math.specs.Picture.{Picture};
-ghost use Rattle.jk_math.specs.declared.fault.Fault.TheVariants.{Shelf};
 ghost use Rattle.jk_tile.specs.decoding.TileReading.{tested};
 ghost use Rattle.jk_code.specs.Meaning.{Means};
 ghost use Rattle.jk_code.specs.MeaningReading.{meaning_at};
-ghost use Rattle.jk_code.specs.Rows.{WereTaken};
+ghost use Rattle.jk_code.specs.Rows.{WereTaken, AreRefused};
 
 use jk_code::{Rows, decode_rows, decode_rows_with, frame};
 use jk_jobs::Open;
@@ -49,7 +48,7 @@ pub(crate) trait RowDecoder {
     ) -> Result<(), Fault>
         requires ready { ready self.now }
         ensures exact { Answers (λ _. tt) result (tested (meaning_at bytes.now reduce))
-            ⊎ ((result ≡ Err Shelf) × (p : Picture) × (meaning_at bytes.now reduce ≡ Ok p)) }
+            ⊎ AreRefused S.took S.refused (meaning_at bytes.now reduce) rows.old rows.new result }
         ensures taken { OnOk result ((p : Picture) × (meaning_at bytes.now reduce ≡ Ok p) × Means bytes.now reduce p
             × WereTaken S.took p p.y0 (p.y0 + p.height) rows.old rows.new) };
 }

@@ -4,7 +4,6 @@ use Rattle.jk_boxes.specs.Boxes.{IsBare, HoldsCodestream, bare_place}
 use Rattle.jk_boxes.specs.Reading.{boxes_at}
 use Rattle.jk_boxes.proofs.Laws.{place_again}
 use Rattle.jk_math.specs.declared.fault.Fault.TheVariants.{BadParameters}
-use Rattle.jk_math.specs.Answer.{◌>>=◌}
 use Rattle.jk_extras.specs.declared.values.Extras.{Extras}
 use Rattle.jk_extras.specs.Placing.{with_extras_at}
 use Rattle.std.specs.Prelude.{Result, Err}

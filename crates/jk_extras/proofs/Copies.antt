@@ -1,14 +1,11 @@
 -- All boxes of XML and under UUIDs of a file are copied.
-use Rattle.std.proofs.Common.{◌≡◌, ℕ, zero, suc, ◌+◌, ◌-◌, ◌<◌, ◌≤◌, Bool, true, false, cond, List, [], ◌∷◌, ◌++◌, length, take, drop, Some, None, Result, Ok, Err, refl, sym, ap, subst, ◌∙◌, append_assoc, arith, inl, inr}
+use Rattle.std.proofs.Common.{◌≡◌, ℕ, zero, suc, ◌+◌, ◌-◌, ◌<◌, ◌≤◌, Bool, true, false, cond, List, [], ◌∷◌, ◌++◌, length, take, drop, Some, None, Ok, refl, sym, ap, subst, ◌∙◌, append_assoc, arith, inl, inr}
 use Rattle.std.specs.List.{AllByRecursion, filter}
-use Rattle.std.proofs.lemmas.List.{take_at, drop_at, drop-drop, length-drop, length-append, append-nil, drop_all}
-use Rattle.jk_math.specs.Answer.{◌>>=◌}
+use Rattle.std.proofs.lemmas.List.{take_at, drop_at, drop-drop, length-drop, append-nil}
 use Rattle.jk_math.specs.Steps.{bind_then, chosen, ok_is}
-use Rattle.jk_math.specs.declared.fault.Fault.{Fault}
 use Rattle.jk_boxes.specs.Boxes.{Box, AreBoxes, IsJp2, box_text, boxes_text, box_size, signature}
-use Rattle.jk_boxes.proofs.Heads.{head_of, box_again, box_length, after_box, box_some}
+use Rattle.jk_boxes.proofs.Heads.{box_again, box_length, after_box, box_some}
 use Rattle.jk_extras.specs.declared.finding.Wanted.TheVariants.{Others}
-use Rattle.jk_extras.specs.declared.header.Met.{Met}
 use Rattle.jk_extras.specs.declared.told.Told.{Told}
 use Rattle.jk_extras.specs.declared.finding.ToldOther.{ToldOther}
 use Rattle.jk_extras.specs.Header.{met_passed, nothing_met}
@@ -18,9 +15,8 @@ use Rattle.jk_extras.specs.Reading.{extras_at, told_of}
 use Rattle.jk_extras.specs.Texts.{HasTold, all_boxes, colour_text, resolution_text, others_from, extras_text}
 use Rattle.jk_extras.proofs.Passing.{some_left}
 use Rattle.jk_extras.proofs.Looking.{one_step, no_step}
-use Rattle.jk_extras.proofs.Copying.{copy_step, copy_fault, copy_nothing}
+use Rattle.jk_extras.proofs.Copying.{copy_step, copy_nothing}
 use Rattle.jk_extras.proofs.Sizes.{text_size}
-use Rattle.jk_extras.proofs.Dressings.{found_again}
 use Rattle.jk_extras.proofs.HeaderTold.{at, boxes, extras_by}
 
 abbrev pub is_other : Box → Bool

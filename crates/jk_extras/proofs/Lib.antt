@@ -12,6 +12,7 @@ pub mod ReadBack
 pub mod OthersBack
 pub mod Dues
 pub mod Again
+pub mod PerInch
 pub mod Plainly
 pub mod Copying
 pub mod Cuts

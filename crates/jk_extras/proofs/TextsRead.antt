@@ -1,10 +1,9 @@
 -- What `extras_text` spells is read again: what is told of colour and resolutions, and all boxes of XML and under UUIDs.
-use Rattle.std.proofs.Common.{lit<, ◌≡◌, ◌≢◌, ℕ, ◌+◌, ◌-◌, ◌^◌, ◌<◌, ◌≤◌, Bool, true, false, ◌&&◌, ◌||◌, not, cond, eqb, ltb, List, [], ◌∷◌, ◌++◌, length, take, drop, map, get_or, Option, Some, None, Result, Ok, Err, refl, sym, ap, subst, ◌∙◌, append_assoc, arith, inl, inr}
+use Rattle.std.proofs.Common.{lit<, ◌≡◌, ℕ, ◌+◌, ◌-◌, ◌^◌, ◌<◌, ◌≤◌, Bool, true, false, ◌&&◌, ◌||◌, not, cond, eqb, ltb, List, [], ◌∷◌, ◌++◌, length, take, drop, map, get_or, Option, Some, None, Result, Ok, Err, refl, sym, ap, subst, ◌∙◌, append_assoc, arith, inl, inr}
 use Rattle.std.specs.Prelude.{IfSome, is_some}
 use Rattle.std.specs.List.{AllByRecursion, filter}
-use Rattle.std.proofs.lemmas.Bool.{cases_lt, lt-ltb, le-ltb, ltb-false, eqb-true, eqb-false, ne_eqb}
+use Rattle.std.proofs.lemmas.Bool.{cases_lt, le-ltb, ltb-false, eqb-true, eqb-false, ne_eqb}
 use Rattle.std.proofs.lemmas.List.{length-append, length-drop, length-take, append-nil}
-use Rattle.byteorder.specs.Endian.{big_bytes, big_number}
 use Rattle.byteorder.specs.Numbers.{big_number-reads_back, big_from-lt}
 use Rattle.jk_math.specs.Answer.{◌>>=◌}
 use Rattle.jk_math.specs.Steps.{bind_then, refuse_then, guarded, guard_ended, chosen, ok_is}
@@ -15,23 +14,21 @@ use Rattle.jk_boxes.specs.declared.boxes.BoxHead.{BoxHead}
 use Rattle.jk_boxes.specs.Boxes.{Box, IsBox, AreBoxes, IsJp2, box_text, boxes_text, box_size, head_size, is_open, colour_kind}
 use Rattle.jk_boxes.specs.Reading.{contents_of}
 use Rattle.jk_boxes.proofs.Heads.{head_of, box_again, box_length, after_box, contents_again, box_some}
-use Rattle.jk_extras.specs.declared.finding.ToldOther.{ToldOther}
 use Rattle.jk_extras.specs.declared.grids.Grid.{Grid}
 use Rattle.jk_extras.specs.declared.grids.Grids.{Grids}
 use Rattle.jk_extras.specs.declared.header.Met.{Met}
 use Rattle.jk_extras.specs.declared.header.ToldColour.{ToldColour}
 use Rattle.jk_extras.specs.declared.header.ToldColour.TheVariants.{Nothing, Enumerated, Profile}
 use Rattle.jk_extras.specs.declared.told.Told.{Told}
-use Rattle.jk_extras.specs.Boxed.{Plain, PlainColour, Stays, ByNumber, ByProfile, PlainOther, PlainXml, PlainUuid, colour_read, other_read, read_step, read_step_at, nothing_read, extras_read}
+use Rattle.jk_extras.specs.Boxed.{Plain, PlainColour, Stays, ByNumber, ByProfile, PlainOther, colour_read, other_read, read_step, read_step_at, nothing_read, extras_read}
 use Rattle.jk_extras.specs.Extras.{is_grid, short_box, grid_text, space_box, profile_box, grids_box, grid_boxes}
-use Rattle.jk_extras.specs.Finding.{xml_kind, uuid_kind, other_told, placed_box}
-use Rattle.jk_extras.specs.Given.{FitsGrid}
+use Rattle.jk_extras.specs.Finding.{xml_kind, uuid_kind, other_told}
 use Rattle.jk_extras.specs.Grids.{has_zero, grid_of, grid_at, grids_passed, grids_step, grids_at, no_grids, capture_kind, display_kind}
 use Rattle.jk_extras.specs.Header.{colour_at, is_nothing, met_passed, nothing_met, resolution_kind}
 use Rattle.jk_extras.specs.Passing.{passed_by}
 use Rattle.jk_extras.specs.Reading.{extras_at, told_of, grids_or_none}
 use Rattle.jk_extras.specs.Taken.{other_of, colour_taken, kept_of}
-use Rattle.jk_extras.specs.Texts.{HasTold, all_boxes, colour_text, resolution_text, extras_text}
+use Rattle.jk_extras.specs.Texts.{all_boxes, colour_text, resolution_text, extras_text}
 use Rattle.jk_extras.proofs.Copies.{is_other, WasTold, told_text}
 use Rattle.jk_extras.proofs.HeaderTold.{at, boxes, contents_spanned, extras_by}
 use Rattle.jk_extras.proofs.Passing.{some_left, one_step as pass_step, no_step}

@@ -1,11 +1,10 @@
 -- What is read of bytes holds numbers of their widths.
-use Rattle.std.proofs.Common.{lit<, ◌≡◌, ℕ, ℤ, pos, negsuc, zero, suc, ◌+◌, ◌-◌, ◌^◌, ◌<◌, ◌≤◌, Bool, true, false, ◌&&◌, ◌||◌, not, cond, eqb, ltb, List, [], ◌∷◌, ◌++◌, length, take, drop, map, get_or, Option, Some, None, Result, Ok, Err, refl, sym, ap, subst, ◌∙◌, arith, inl, inr}
+use Rattle.std.proofs.Common.{◌≡◌, ℕ, zero, suc, ◌+◌, ◌-◌, ◌<◌, ◌≤◌, Bool, true, false, ◌&&◌, ◌||◌, not, eqb, ltb, List, [], ◌∷◌, ◌++◌, length, take, drop, map, get_or, Some, Result, Ok, subst, ◌∙◌, arith, inl, inr}
 use Rattle.std.specs.Prelude.{IfSome, is_some}
 use Rattle.std.specs.List.{AllByRecursion}
 use Rattle.std.proofs.lemmas.Bool.{cases_lt, lt-ltb, le-ltb, ltb-false}
 use Rattle.std.proofs.lemmas.List.{length-take}
 use Rattle.byteorder.specs.Numbers.{big_from-lt}
-use Rattle.jk_math.specs.Answer.{◌>>=◌, refuse}
 use Rattle.jk_math.specs.Steps.{bind_then, refuse_then, guarded, chosen, ok_is}
 use Rattle.jk_math.specs.declared.fault.Fault.{Fault}
 use Rattle.jk_math.specs.declared.fault.Fault.TheVariants.{BadBox, BadValue}
@@ -13,7 +12,6 @@ use Rattle.jk_math.proofs.Laws.{AreBytes, are_bytes_after, are_bytes_taken}
 use Rattle.jk_boxes.specs.declared.boxes.BoxHead.{BoxHead}
 use Rattle.jk_boxes.specs.Boxes.{head_size, colour_kind}
 use Rattle.jk_boxes.specs.Reading.{box_at, contents_of}
-use Rattle.jk_extras.specs.declared.grids.Ratio.{Ratio}
 use Rattle.jk_extras.specs.declared.grids.Grid.{Grid}
 use Rattle.jk_extras.specs.declared.grids.Grids.{Grids}
 use Rattle.jk_extras.specs.declared.values.Other.{Other}

@@ -1,6 +1,6 @@
 -- Examples: boxes of T.800 Annex I, byte by byte.
 use Rattle.std.specs.Prelude.{◌≡◌, ℕ, pos, negsuc, true, false, List, [], ◌∷◌, Some, Ok, Err, refl}
-use Rattle.std.proofs.Common.{lit<}
+use Rattle.std.proofs.Common.{lit<, inl, inr}
 use Rattle.jk_math.specs.declared.fault.Fault.TheVariants.{BadBox, BadValue}
 use Rattle.jk_extras.specs.declared.header.ToldColour.TheVariants.{Nothing, Enumerated, Profile}
 use Rattle.jk_extras.specs.Grids.{signed_byte, grid_at, capture_kind}
@@ -72,7 +72,11 @@ row_curves = (refl, refl)
 
 -- 300 samples per inch is 15000 / 127 * 10^2 samples per metre
 row_per_inch : IsPerInch 300 1 (record { numerator = 15000; denominator = 127; exponent = pos 2 })
-row_per_inch = record { power = 2; exponent = refl; numerator = lit< tt; denominator = lit< tt; same = refl }
+row_per_inch = record { numerator = lit< tt; denominator = lit< tt; same = inl (2, record { exponent = refl; same = refl }) }
+
+-- a thousand millionth of a sample per inch: 5 / 127 * 10^-6 per metre
+row_few_per_inch : IsPerInch 1 1000000000 (record { numerator = 5; denominator = 127; exponent = negsuc 5 })
+row_few_per_inch = record { numerator = lit< tt; denominator = lit< tt; same = inr (5, record { exponent = refl; same = refl }) }
 
 -- what boxes say: the first method that T.800 has counts
 row_said : first_colour (record { form = Short; kind = colour_kind; contents = 3 ∷ 0 ∷ 0 ∷ 9 ∷ [] }

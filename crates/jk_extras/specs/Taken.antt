@@ -1,5 +1,5 @@
 -- What is read of the text of what a file keeps.
-use Rattle.std.specs.Prelude.{◌≡◌, ℕ, ◌<◌, ◌==◌, ◌||◌, if◌then◌else◌, List, length, take, drop, map, slice_index}
+use Rattle.std.specs.Prelude.{◌≡◌, ℕ, ◌<◌, ◌==◌, ◌||◌, if◌then◌else◌, List, take, drop, map, slice_index}
 use Rattle.std.specs.Prelude.{slice_range, Result, Ok, Err}
 use Rattle.std.specs.List.{filter}
 use Rattle.jk_math.specs.Answer.{◌>>=◌}

@@ -3,16 +3,20 @@
 use crate::place::place;
 use crate::refusal::Refusal;
 use std::alloc::Global;
+use std::os::unix::fs::MetadataExt;
 use std::rt::Files;
 use std::time::{Duration, UNIX_EPOCH};
 
-/// How long a file is, and when its bytes were written last, in seconds and nanoseconds since 1970:
-/// where both are the same the file is taken to be as it was.
+/// How long a file is, when its bytes were written last, and when its bytes, its mode or its owner
+/// changed last, in seconds and nanoseconds since 1970: where all are the same the file is taken to be
+/// as it was.
 #[derive(Clone, Copy, Debug, PartialEq, Eq)]
 pub struct Stamp {
     pub length: u64,
     pub seconds: u64,
     pub nanos: u32,
+    pub changed: i64,
+    pub changed_nanos: i64,
 }
 
 /// The stamp of what stands in a folder under a name, links followed. It isn't opened.
@@ -34,5 +38,7 @@ pub fn stamp_of<R: Files>(
         length: metadata.len(),
         seconds: since.as_secs(),
         nanos: since.subsec_nanos(),
+        changed: metadata.ctime(),
+        changed_nanos: metadata.ctime_nsec(),
     })
 }

@@ -98,33 +98,6 @@ fn paired<S: Shelf + Drop>(
     Ok(workers)
 }
 
-/// Starts a thread for each of these workers, and returns whether all could be started.
-fn start_all<
-    's,
-    E,
-    R: Threads + Wait + Sync + 's,
-    S: Shelf + Drop + Send + 's,
-    G: Gate + Sync + 's,
-    C: Source + Sync + 's,
->(
-    scope: &Scope<'s, E>,
-    rt: &'s R,
-    alloc: Global,
-    mut workers: Vec<(Reader, S)>,
-    shared: &'s Shared<'s, G, C>,
-) -> bool {
-    let Some(worker) = workers.pop() else {
-        return true;
-    };
-    if scope
-        .spawn(move || work_from_start(rt, alloc, worker, shared))
-        .is_err()
-    {
-        return false;
-    }
-    start_all(scope, rt, alloc, workers, shared)
-}
-
 /// Starts a thread for each of the other workers, and then serves connections in this one. Returns
 /// false, and no connection is taken, if a thread cannot be started.
 fn start_and_work<
@@ -138,17 +111,23 @@ fn start_and_work<
     scope: &Scope<'s, E>,
     rt: &'s R,
     alloc: Global,
-    others: Vec<(Reader, S)>,
+    mut others: Vec<(Reader, S)>,
     own: (Reader, S),
     shared: &'s Shared<'s, G, C>,
 ) -> bool {
-    if !start_all(scope, rt, alloc, others, shared) {
+    let Some(worker) = others.pop() else {
+        shared.start.begin(rt);
+        work(rt, alloc, own, shared);
+        return true;
+    };
+    if scope
+        .spawn(move || work_from_start(rt, alloc, worker, shared))
+        .is_err()
+    {
         shared.start.give_up(rt);
         return false;
     }
-    shared.start.begin(rt);
-    work(rt, alloc, own, shared);
-    true
+    start_and_work(scope, rt, alloc, others, own, shared)
 }
 
 /// Has these workers serve connections, each in a thread of its own but for the last. Returns false,

@@ -30,9 +30,10 @@ impl Start {
     /// Goes on to a stage, if it is still due.
     fn settle<R: Wait>(&self, rt: &R, next: Stage) {
         let mut stage = self.stage.lock(rt);
-        if *stage == Stage::Due {
-            *stage = next;
+        if *stage != Stage::Due {
+            return;
         }
+        *stage = next;
         drop(stage);
         self.settled.notify_all();
     }

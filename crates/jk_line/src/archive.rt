@@ -188,6 +188,7 @@ fn serving<W: Working>(alloc: Global, world: &W, line: &Server<'_>) -> Result<Se
         timeout,
         log: line.log,
         unserved: 0,
+        left_out: None,
     })
 }
 
@@ -223,29 +224,11 @@ fn host_names(alloc: Global, line: &Server<'_>) -> Result<Option<Vec<String>>, F
     Ok(Some(names))
 }
 
-/// Why an archive can't be served on a port, or not all of it could.
-fn unserved<W: World>(
-    alloc: Global,
-    world: &mut W,
-    fault: Fault,
-    folder: &str,
-    port: u16,
-) -> Failure {
-    match fault {
-        Fault::Limit => with_words(
-            fault,
-            format!(in alloc;
-                "{folder} has more than {MOST_IMAGES} images, which is the most that are served"
-            ),
-        ),
-        Fault::Memory(_) => with_words(
-            fault,
-            format!(in alloc; "there isn't enough memory for all files of {folder}"),
-        ),
-        _ => match format!(in alloc; "port {port}") {
-            Ok(subject) => of_world(alloc, world, fault, subject.as_str(), "served"),
-            Err(_) => Failure::from(fault),
-        },
+/// Why an archive can't be served on a port.
+fn unserved<W: World>(alloc: Global, world: &mut W, fault: Fault, port: u16) -> Failure {
+    match format!(in alloc; "port {port}") {
+        Ok(subject) => of_world(alloc, world, fault, subject.as_str(), "served"),
+        Err(_) => Failure::from(fault),
     }
 }
 
@@ -273,13 +256,10 @@ pub(crate) fn serve<W: World>(
     let Opened { archive, left_out } = opened?;
     world.tell_left(archive.shelf());
     serving.unserved = count_unserved(alloc, world, folder)?;
-    let trouble = match world.serve(alloc, folder, archive, serving) {
-        Ok(()) => left_out,
-        Err(fault) => Some(fault),
-    };
-    match trouble {
-        Some(fault) => Err(unserved(alloc, world, fault, folder, serving.port)),
-        None => Ok(()),
+    serving.left_out = left_out;
+    match world.serve(alloc, folder, archive, serving) {
+        Ok(()) => Ok(()),
+        Err(fault) => Err(unserved(alloc, world, fault, serving.port)),
     }
 }
 
@@ -334,7 +314,7 @@ fn serve_opening<W: World>(
     serving.unserved = count_unserved(alloc, world, name)?;
     match world.serve_opening(alloc, name, archive, serving, meanwhile) {
         Ok(()) => Ok(()),
-        Err(fault) => Err(unserved(alloc, world, fault, name, serving.port)),
+        Err(fault) => Err(unserved(alloc, world, fault, serving.port)),
     }
 }
 

@@ -6,10 +6,7 @@ use crate::keeping;
 use crate::streams::{close, create, finish, open, read, write};
 use crate::workers::workers;
 use crate::world::World;
-use jk_commands::{
-    Plan, encode_file_dressed, encode_file_dressed_with, encode_file_into, encode_file_with,
-    encode_rows_from, judge,
-};
+use jk_commands::{Plan, encode_file_dressed, encode_file_dressed_with, encode_rows_from, judge};
 use jk_math::Fault;
 use jk_words::{Encoding, Front, Work};
 use std::alloc::Global;
@@ -88,48 +85,6 @@ fn end_output<W: World>(
     }
 }
 
-/// Encodes the whole image of a file by this thread, tile by tile.
-fn encode_whole<W: World>(
-    alloc: Global,
-    world: &mut W,
-    line: &Encoding<'_>,
-    plan: Plan,
-) -> Result<(), Failure> {
-    let bytes = read(alloc, world, line.input)?;
-    let front = Front::of(alloc, &bytes);
-    let mut output = create(alloc, world, to(line), false)?;
-    world.begin_work(Work::Encoding, Some(bytes.len() as u64));
-    let encoded = encode_file_into(alloc, bytes, plan, &mut output);
-    world.end_work();
-    end_output(alloc, world, line, output, encoded, &front)
-}
-
-/// Encodes the whole image of a file by several workers, and then writes it.
-fn encode_whole_by<W: World>(
-    alloc: Global,
-    world: &mut W,
-    line: &Encoding<'_>,
-    workers: usize,
-    plan: Plan,
-) -> Result<(), Failure> {
-    let bytes = read(alloc, world, line.input)?;
-    let front = Front::of(alloc, &bytes);
-    world.begin_work(Work::Encoding, Some(bytes.len() as u64));
-    let encoded = encode_file_with::<W::Runtime, W::Counter>(
-        world.runtime(),
-        alloc,
-        workers,
-        world.counter(),
-        bytes,
-        plan,
-    );
-    world.end_work();
-    match encoded {
-        Ok(file) => write(alloc, world, to(line), &file),
-        Err(fault) => Err(of_encoding(alloc, fault, line, &front)),
-    }
-}
-
 /// Encodes the image of a file of so many bytes, if it is known how many, as it is read row by row. A
 /// read that was refused is told before all else.
 fn encode_read<W: World>(
@@ -162,39 +117,6 @@ fn encode_read<W: World>(
     }
 }
 
-/// How many bytes a file has at least whose image one worker encodes row by row, where it isn't cut
-/// into tiles: the whole image of a smaller one takes little memory, and less time where rows are short.
-const SOME_BYTES: u64 = 1 << 20;
-
-/// The same for several workers, to whom a small image gives few stripes.
-const MORE_BYTES: u64 = 1 << 21;
-
-/// The same for several workers and very small or high code-blocks: what is done of each small one
-/// beside its coding, and the rows that wait for the last one of a high one, take longer than the whole
-/// image.
-const MANY_BYTES: u64 = 1 << 26;
-
-/// Whether code-blocks are smaller than those of 16 by 16, or higher than those of 64 by 64.
-fn is_small_or_high(plan: &Plan) -> bool {
-    let parameters = &plan.parameters;
-    parameters.xcb as u32 + (parameters.ycb as u32) < 8 || parameters.ycb > 6
-}
-
-/// Whether so many workers encode the image of a file of so many bytes, if it is known how many, whole.
-fn is_whole(size: Option<u64>, workers: usize, plan: &Plan) -> bool {
-    let least = if workers == 1 {
-        SOME_BYTES
-    } else if is_small_or_high(plan) {
-        MANY_BYTES
-    } else {
-        MORE_BYTES
-    };
-    match size {
-        Some(size) => size < least && plan.parameters.tile.is_none(),
-        None => false,
-    }
-}
-
 /// `jk encode IN OUT`: how many workers there are, the options, what the file is to keep, then the
 /// input, the output, the image and its encoding.
 pub(crate) fn encode<W: World>(
@@ -211,11 +133,5 @@ pub(crate) fn encode<W: World>(
         return encode_dressed(alloc, world, line, workers, plan);
     }
     let size = world.size(line.input);
-    if !is_whole(size, workers, &plan) {
-        return encode_read(alloc, world, line, workers, plan, size);
-    }
-    if workers > 1 {
-        return encode_whole_by(alloc, world, line, workers, plan);
-    }
-    encode_whole(alloc, world, line, plan)
+    encode_read(alloc, world, line, workers, plan, size)
 }

@@ -19,7 +19,6 @@ mod status;
 mod streams;
 mod unjudged;
 mod viewing;
-mod ways;
 mod workers;
 mod world;
 

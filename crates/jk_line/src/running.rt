@@ -7,15 +7,12 @@ use crate::informing::info;
 use crate::status::Status;
 use crate::streams::{create, finish, read, write};
 use crate::viewing::decode_stored;
-use crate::ways::{Way, way_of};
 use crate::workers::workers;
 use crate::world::{Streams, World};
 use crate::{adding, adding_all, archive, checking, keeping};
 use jk_commands::{
-    cut_file, decode_file_into, decode_file_into_with, decode_rows_into, decode_rows_into_with,
-    decode_window_file_into, first_layers,
+    cut_file, decode_rows_into, decode_rows_into_with, decode_window_file_into, first_layers,
 };
-use jk_jobs::Open;
 use jk_math::Fault;
 use jk_window::View;
 use jk_words::{
@@ -24,31 +21,19 @@ use jk_words::{
 };
 use std::alloc::Global;
 
-/// Writes the image of a file.
+/// Writes the image of a file, row by row.
 fn decode_image<W: World>(
     alloc: Global,
     world: &W,
-    way: Way,
-    bytes: Vec<u8>,
+    workers: usize,
+    bytes: &[u8],
     reduce: u32,
     output: &mut W::Output,
 ) -> Result<(), Fault> {
-    match way {
-        Way::Workers(workers) => decode_file_into_with::<W::Runtime, Open, W::Output>(
-            world.runtime(),
-            alloc,
-            workers,
-            &Open,
-            bytes,
-            reduce,
-            output,
-        ),
-        Way::RowsBy(workers) => {
-            decode_rows_into_with(world.runtime(), alloc, workers, &bytes, reduce, output)
-        }
-        Way::Rows => decode_rows_into(alloc, &bytes, reduce, output),
-        Way::AtOnce => decode_file_into(alloc, bytes, reduce, output),
+    if workers > 1 {
+        return decode_rows_into_with(world.runtime(), alloc, workers, bytes, reduce, output);
     }
+    decode_rows_into(alloc, bytes, reduce, output)
 }
 
 /// The file that is decoded: the file itself, or what of it has the layers that are asked for, on the
@@ -92,13 +77,11 @@ fn decode<W: World>(alloc: Global, world: &mut W, line: &Decoding<'_>) -> Result
         Err(fault) => return Err(of_decoding(alloc, fault, line, &seen)),
     };
     let to = Destination::beside(line.input, line.output, line.no_clobber);
-    let way = way_of(workers, &bytes, line.reduce);
-    let is_held = line.window.is_none() && matches!(way, Way::Rows | Way::RowsBy(_));
-    let mut output = create(alloc, world, to, is_held)?;
+    let mut output = create(alloc, world, to, line.window.is_none())?;
     world.begin_work(Work::Decoding, Some(bytes.len() as u64));
     let decoded = match line.window {
         Some(view) => decode_window_file_into(alloc, bytes, view, &mut output),
-        None => decode_image(alloc, world, way, bytes, line.reduce, &mut output),
+        None => decode_image(alloc, world, workers, &bytes, line.reduce, &mut output),
     };
     world.end_work();
     let finished = finish(alloc, world, to, output, decoded.is_ok());

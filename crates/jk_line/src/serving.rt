@@ -1,5 +1,7 @@
 //! How an archive is served.
 
+use jk_math::Fault;
+
 /// How an archive is served.
 #[derive(Clone, Copy, Debug, PartialEq, Eq)]
 pub struct Serving {
@@ -15,6 +17,8 @@ pub struct Serving {
     pub log: bool,
     /// How many files and folders of the archive's folder aren't served because of their names.
     pub unserved: usize,
+    /// The first fault for which a file was left out that might have been listed: serving ends with it.
+    pub left_out: Option<Fault>,
 }
 
 /// What is opened while it is served.

@@ -53,10 +53,10 @@ fn keep_freed_memory(alloc: Global) {
     let _ = Vec::<u8>::with_capacity(alloc, KEPT);
 }
 
-/// Writes the fault with which serving ended, if it did. If not, the status is that of the line.
-fn ended<R: Eprint>(rt: &R, served: Result<(), Fault>, status: Status) -> Status {
+/// Writes the fault with which serving ended, if it did.
+fn ended<R: Eprint>(rt: &R, served: Result<(), Fault>) -> Status {
     match served {
-        Ok(()) => status,
+        Ok(()) => Status::Done,
         Err(fault) => {
             let _ = rt.eprint(&FaultLine { fault });
             Status::Refused
@@ -92,7 +92,7 @@ fn main(rt: HostRuntime) -> ExitCode {
                         }
                         None => serve(&rt, alloc, port, &mut desk, shelves, serving),
                     };
-                    ended(&rt, served, status)
+                    ended(&rt, served)
                 }
                 None => status,
             }

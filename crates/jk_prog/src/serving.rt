@@ -89,7 +89,11 @@ where
     let started = listening(alloc, images, port.number, serving.unserved)?;
     let arriving = arriving(rt, alloc, port, serving, started)?;
     let all = jk_serve::serve_port(rt, alloc, desk, shelves, &arriving)?;
-    tell_served(rt, alloc, all)
+    tell_served(rt, alloc, all)?;
+    match serving.left_out {
+        Some(fault) => Err(fault),
+        None => Ok(()),
+    }
 }
 
 /// Standard input, of which nothing is held between two reads.

@@ -1,5 +1,5 @@
 -- A tile whose code-blocks are all fine has none with a fault.
-use Rattle.std.proofs.Common.{◌≡◌, ℕ, true, false, ◌+◌, ◌-◌, ◌<◌, ◌≤◌, length, Result, Ok, Err, sym, ◌∙◌, arith}
+use Rattle.std.proofs.Common.{◌≡◌, ◌+◌, ◌-◌, length, Result, Err, sym, ◌∙◌, inl, inr, arith}
 use Rattle.jk_math.specs.declared.fault.Fault.{Fault}
 use Rattle.jk_geom.specs.Precincts.{precinct_number}
 use Rattle.jk_geom.specs.Rectangles.{tile_area}
@@ -10,13 +10,13 @@ use Rattle.jk_tile.specs.decoding.TileReading.{tested, block_values, band_tested
 use Rattle.jk_tile.specs.decoding.TileSources.{TileSource}
 use Rattle.jk_tile.specs.decoding.Source.{source_bodies, block_count}
 use Rattle.jk_tile.proofs.Laws.{fine, each_found, tile_tested, tested_then, band_by, precinct_by, resolution_by, component_by}
-use Rattle.jk_rows.specs.Tiles.{component_in, HasFaultIn}
+use Rattle.jk_rows.specs.Tiles.{component_in, HasFaultBelow, HasFaultIn}
 
 differ : (r : Result (Unit {0}) Fault) (e : Fault) → r ≡ fine → r ≡ Err e → ⊥
 differ r e here there = let f : fine ≡ Err e = sym here ∙ there in cc
 
-pub no_fault_in : (t : TileSource) (e : Fault) → tested (tile_planes_at t.bytes t.headers t.number t.reduce t.packets) ≡ fine → HasFaultIn t e → ⊥
-no_fault_in t e all has =
+no_fault_below : (t : TileSource) (e : Fault) → tested (tile_planes_at t.bytes t.headers t.number t.reduce t.packets) ≡ fine → HasFaultBelow t e → ⊥
+no_fault_below t e all has =
     let h = t.headers in
     let a = tile_area h.siz t.number in
     let c = has.component in
@@ -33,3 +33,7 @@ no_fault_in t e all has =
     let band = each_found (length (orientations r)) (λ i. band_tested a k r n i (source_bodies s r n)) tt (sym (precinct_by a k r n (source_bodies s r n)) ∙ precinct) i f.is_band in
     let block = each_found (block_count s r n i) (λ j. tested (block_values a k r n i j (source_bodies s r n))) tt (sym (band_by a k r n i (source_bodies s r n)) ∙ band) j f.is_block in
     differ (tested (block_values a k r n i j (source_bodies s r n))) e block f.refuses
+
+pub no_fault_in : (t : TileSource) (e : Fault) → tested (tile_planes_at t.bytes t.headers t.number t.reduce t.packets) ≡ fine → HasFaultIn t e → ⊥
+no_fault_in t e all (inl below) = no_fault_below t e all below
+no_fault_in t e all (inr first) = differ (tested (tile_planes_at t.bytes t.headers t.number t.reduce t.packets)) e all first

@@ -9,4 +9,5 @@ pub mod Whole
 pub mod Climbed
 pub mod TileRowLaws
 pub mod Faults
+pub mod AtOnceLaws
 pub mod Laws

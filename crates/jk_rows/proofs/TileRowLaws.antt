@@ -10,9 +10,9 @@ use Rattle.jk_tile.specs.decoding.Source.{IsSource}
 use Rattle.jk_tile.specs.decoding.TileSources.{TileSource}
 use Rattle.jk_tile.proofs.Laws.{fine, each_only, component_is, tile_fine}
 use Rattle.jk_rows.specs.declared.component.ComponentRows.{ComponentRows}
-use Rattle.jk_rows.specs.declared.tile.TileRows.{TileRows}
+use Rattle.jk_rows.specs.declared.climbing.ClimbingTile.{ClimbingTile}
 use Rattle.jk_rows.specs.Components.{area_at, IsComponentRows}
-use Rattle.jk_rows.specs.Tiles.{component_in, IsTileRows}
+use Rattle.jk_rows.specs.Tiles.{component_in, IsClimbingTile}
 use Rattle.jk_rows.proofs.Pushed.{some_element}
 use Rattle.jk_rows.proofs.Whole.{component_fine}
 
@@ -22,7 +22,7 @@ pub record IsSound (t : TileSource) (c : ℕ) : Type 0 where
   pub top : area_at (component_in t c) (component_in t c).region.top ≡ shown_area t.headers.siz t.number t.reduce
 
 -- a tile of which all rows were made
-pub rows_fine : (t : TileSource) (r : TileRows) → ((c : ℕ) → c < t.headers.siz.components → IsSound t c) → IsTileRows t (shown_area t.headers.siz t.number t.reduce).y1 r
+pub rows_fine : (t : TileSource) (r : ClimbingTile) → ((c : ℕ) → c < t.headers.siz.components → IsSound t c) → IsClimbingTile t (shown_area t.headers.siz t.number t.reduce).y1 r
     → tested (tile_planes_at t.bytes t.headers t.number t.reduce t.packets) ≡ fine
 rows_fine t r sound at =
     let h = t.headers in

@@ -22,7 +22,7 @@ use crate::checked::{Checked, Finding};
 use crate::names;
 use crate::opening::image_index;
 use crate::shelf::Shelf;
-use jk_code::decode;
+use jk_code::judge_file;
 use jk_digest::sha256;
 use jk_jobs::{Open, Work, map_jobs};
 use jk_math::Fault;
@@ -33,16 +33,16 @@ use std::thread::Threads;
 
 /// Judges the file of an image.
 ///
-/// The first of these: as `image_index`; where code-blocks are judged, as `jk_code::decode`.
+/// The first of these: as `image_index`; where code-blocks are judged, as `jk_code::judge_file`.
 #[tactic(auto, unfolding(crate::specs::Checking::check_at))]
-fn judge_file(alloc: Global, bytes: &[u8], blocks: bool) -> Result<(), Fault>
+fn judge(alloc: Global, bytes: &[u8], blocks: bool) -> Result<(), Fault>
     ensures exact { Answers (λ u. u) result (check_at blocks bytes.now) }
     ensures found { OnOk result (IsImage blocks bytes.now) }
     ensures only { IsImage blocks bytes.now → IfErr result IsMemory }
 {
     let _ = image_index(alloc, bytes)?;
     if blocks {
-        let _ = decode(alloc, bytes, 0)?;
+        judge_file(alloc, bytes, 0)?;
     }
     Ok(())
 }
@@ -52,7 +52,7 @@ fn finding(alloc: Global, bytes: &[u8], blocks: bool) -> Finding
     ensures { IsFindingOf blocks (Ok bytes.now) result }
 {
     let digest = sha256(bytes);
-    match judge_file(alloc, bytes, blocks) {
+    match judge(alloc, bytes, blocks) {
         Ok(()) => Finding::Whole(digest),
         Err(fault) => Finding::Broken(digest, fault),
     }

@@ -3,7 +3,7 @@ pub use Rattle.jk_tile.proofs.TileLaws.{tile_found, tile_only}
 pub use Rattle.jk_tile.proofs.TileLaws.{IsDecoded, tile_tested}
 pub use Rattle.jk_tile.proofs.Steps.{fine, each_none, each_more, each_fails, each_found, each_only, refuses_on, tested_then, tested_ok, tested_err, bind_ok, bind_err, band_by, precinct_by, resolution_by, component_by}
 pub use Rattle.jk_tile.proofs.Showing.{IsPut, Agrees, put_keeps, put_shows, put_at, has_within, within_has, put_here, put_there, vector_items, with_same, numbered_band}
-pub use Rattle.jk_tile.proofs.Colours.{rasters, count_is as lists_count, list_long, lists_uncoloured, uncoloured_small, wider, samples_coloured, samples_plain}
+pub use Rattle.jk_tile.proofs.Colours.{rasters, count_is as lists_count, list_is, list_long, lists_uncoloured, uncoloured_small, wider, samples_coloured, samples_plain}
 pub use Rattle.jk_tile.proofs.encoding.PacketsTold.{HaveTables, names_of, of_layers, bodies_same, tile_is}
 pub use Rattle.jk_tile.proofs.encoding.LayerTables.{table_fits, table_has_bytes, table_has_passes}
 pub use Rattle.jk_tile.proofs.encoding.BlocksMeant.{precinct_bodies, block_meant}

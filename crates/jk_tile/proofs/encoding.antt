@@ -1,10 +1,9 @@
 -- The way of a tile that is written: its samples are cut out (Copying, TileAreas) and become
 -- coefficients (Forwards) with exponents (Needing); code-blocks are coded (WrittenBlocks) and have
 -- tables by layer (LayerTables) and by precinct (TileLists, TileIndex, Firsts), of which the packets
--- are made in their order (PacketsFew, WritingTile, EncodingTile). Where code-blocks are coded side
--- by side, what they give is cut apart (Batches). What is read of them again: packets (PacketsTold),
--- code-blocks (BlocksMeant), samples (WrittenTile, SamplesMeant), and the first layers
--- (FrontsMeant).
+-- are made in their order (PacketsFew, WritingTile, EncodingTile). What is read of them again:
+-- packets (PacketsTold), code-blocks (BlocksMeant), samples (WrittenTile, SamplesMeant), and the
+-- first layers (FrontsMeant).
 pub mod Copying
 pub mod Forwards
 pub mod WrittenRows
@@ -22,7 +21,6 @@ pub mod Firsts
 pub mod WritingTile
 pub mod PacketsFew
 pub mod EncodingTile
-pub mod Batches
 pub mod FrontsMeant
 mod BlockRows
 mod StripBlocks
@@ -33,5 +31,6 @@ mod TablesLate
 mod ComponentFalls
 mod ComponentDone
 mod TileFalls
+mod MeasuredRows
 pub mod TilesLate
 mod Passing

@@ -1,16 +1,13 @@
 -- The way of a tile that is written: samples become coefficients (Forward), these have exponents
 -- (Needs) and code-blocks with their tables (TileWritten), and the packets are made of the tables
--- in their order (PacketsWritten; TileWriters: what is kept on the way). Jobs: the code-blocks as
--- they are coded side by side. Fronts: what the first layers of it mean. Strips: code-blocks that
--- are coded as the rows of their sub-band come, Layered: these before exponents are known, and
--- Ahead: these where workers code them side by side before.
+-- in their order (PacketsWritten; TileWriters: what is kept on the way). Fronts: what the first
+-- layers of it mean. Strips: code-blocks that are coded as the rows of their sub-band come, Layered:
+-- these before exponents are known, and Ahead: these where workers code them side by side before.
 pub mod Forward
 pub mod Needs
-pub mod Written
 pub mod TileWritten
 pub mod PacketsWritten
 pub mod TileWriters
-pub mod Jobs
 pub mod Fronts
 pub mod Layered
 pub mod Ahead

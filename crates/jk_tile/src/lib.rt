@@ -11,15 +11,15 @@ mod workers;
 
 pub use decoding::{
     BlockRow, BlockSegment, CodedComponent, CodedTile, DecodedBlocks, PacketChains, add_row_blocks,
-    block_exponent, decode_blocks_with, decode_part, decode_part_of, decode_segments,
-    decode_segments_beside, decode_tile, judge_tile, packets_by_precinct, put, read_strip,
-    strip_area, uncolour,
+    add_tile_blocks, block_exponent, decode_part_of, decode_segments, decode_segments_beside,
+    decode_tile, decode_tile_of, judge_tile, packets_by_precinct, put, read_strip, strip_area,
+    uncolour,
 };
 pub use encoding::{
-    BlockJob, CodedBlocks, Executor, FallenComponent, FallenTile, FallingComponent, FallingTile,
-    Parallel, Sequential, TileOutline, UncodedBlocks, When, WrittenComponent, WrittenImage,
-    code_blocks, code_blocks_beside, encode_tile, exponents, exponents_with, packets_of,
-    packets_size, put_values, tile_bands, write_packets,
+    CodedBlocks, FallenComponent, FallenTile, FallingComponent, FallingTile, GivenRows, TextSink,
+    TextWriter, TileOutline, UncodedBlocks, When, WrittenComponent, code_blocks,
+    code_blocks_beside, exponents_with, packets_of, packets_size, pass_tile, put_values,
+    raise_needs,
 };
 pub use samples::{all_to_samples, level_shift};
 pub use workers::Workers;

@@ -17,90 +17,109 @@ jk encode scan.ppm scan.jp2          encodes an image, without loss
 jk decode scan.jp2 scan.ppm          decodes it: the same samples
 jk add archive page-1 scan.ppm       adds the image to the folder `archive` as page-1.jp2
 
-An error is a line such as `jk: F2 Truncated` on standard error, and the exit status is 1; a second
-line names the file and the cause, unless --quiet is given. `jk faults` lists all errors. A wrong
-command line has the exit status 2. `jk COMMAND --help` prints the options of a command.";
+Exit status: 0, or 1 after an error, or 2 after a wrong command line. An error is one line such as
+`jk: F2 Truncated` on standard error; a second line names the file and the cause, unless --quiet is
+given. `jk faults` lists all errors. `jk COMMAND --help` prints the options of a command.";
 
 /// What the words of the line of `jk info` are.
 const INFO_HELP: &str = "\
 The line is WIDTH HEIGHT COMPONENTS DEPTH LEVELS LAYERS ORDER TILES PACKETS. LEVELS is the least
-number of decomposition levels of a component of a tile: the image can't be halved more often.
-LAYERS and ORDER are those of the main header. The boxes, all headers and all packets are read, and
-what is wrong with them is an error; code-blocks aren't decoded. Where several files are given, the
-name of each stands at the end of its line; the others are printed although one has an error.
+number of decomposition levels of any component of any tile: the image can't be halved more often.
+LAYERS and ORDER are those of the main header. jk reads boxes, headers and packet headers, and reports
+what is wrong with them as an error; it doesn't decode code-blocks. With several files, each line ends
+with the name of its file, and an error in one file doesn't stop the others.
 
-With --all these lines follow, each a LABEL, a colon and values, each behind a space:
-boxes: KIND=LENGTH of each box; what isn't a letter or a digit of a kind stands as in a URL
-tile-parts: how many there are
+With --all these lines follow, each a LABEL, a colon and values separated by spaces:
+boxes: KIND=LENGTH of each box; characters other than letters and digits are escaped as in a URL
+tile-parts: their number
 code-blocks: WIDTHxHEIGHT
-block-style: reset, causal and segments, those that the code-blocks have
-precincts: WIDTHxHEIGHT of each resolution, from the lowest on
+block-style: the code-block styles in use: reset, causal, segments
+precincts: WIDTHxHEIGHT of each resolution, from the lowest to the highest
 SOP: yes or no
 EPH: yes or no
 colour-transform: reversible or none
-passed-over: NAME=COUNT of the marker segments in headers that say nothing of the image
-sizes: WIDTHxHEIGHT of the image at each reduction, from 0 on
-The value is `differ` where tiles or components aren't alike, and `none` where there is nothing.
+passed-over: NAME=COUNT of the marker segments that say nothing about the image
+sizes: WIDTHxHEIGHT of the image at each reduction, from 0
+A value is `differ` if tiles or components differ, and `none` if there is nothing.
 
 With --json a line is an object: file, width, height, components, depth, levels, layers, order, tiles
-and packets, and the labels above; boxes and passed-over are lists of pairs [KIND, NUMBER], precincts
-and sizes lists of pairs [WIDTH, HEIGHT], code-blocks such a pair, SOP and EPH true or false. A file
-with an error is an object of file and error.";
+and packets, and the labels above. boxes and passed-over are lists of pairs [KIND, NUMBER], precincts
+and sizes lists of pairs [WIDTH, HEIGHT], code-blocks is such a pair, SOP and EPH are true or false. A
+file with an error is an object of file and error.";
 
 /// What `jk decode` does with a window.
 const DECODE_HELP: &str = "\
-With --x, --y, --w and --h a window alone is decoded, in the time and memory of a window. Columns
-and rows are counted on the reduced image, from its upper left sample; what passes its edge is left
-out. Packets and code-blocks on which the window doesn't depend aren't judged. IN may be the file of
-a window (`jk cut`), on which columns and rows are counted as on the old file. A window is decoded by
-one thread, whatever --workers says. With --layers K only the first K layers are decoded: what is
-written is what `jk cut` with this number and then `jk decode` write.";
+With --x, --y, --w and --h only a window (a region) is decoded, in the time and memory of that region.
+Columns and rows are counted on the reduced image, from its upper left sample; a window that passes the
+edge is clipped. Packets and code-blocks that the window doesn't need are not checked. IN may be the
+file of a window (`jk cut`): columns and rows are still those of the original image. A window is
+decoded by one thread, whatever --workers says. With --layers K only the first K quality layers are
+decoded; the output is that of `jk cut` with the same number and then `jk decode`.";
 
 /// What `jk cut` gives.
 const CUT_HELP: &str = "\
-Columns and rows are counted on the reduced image, from its upper left sample; what passes its edge
-is left out. The new file is the old one, in which the packets that the window doesn't need are
-empty: a decoder gives the whole image at any reduction up to the asked one, and on the window it is
-that of the old file. With --layers K the packets of later layers are empty too: on the window it is
-what the first K layers of the old file give.";
+Columns and rows are counted on the reduced image, from its upper left sample; a window that passes the
+edge is clipped. The new file is a copy of the old one whose packets are empty except those that the
+window needs. Any decoder gives an image of full size, at any reduction up to the requested one, and
+inside the window it is the image of the old file. With --layers K the packets of later layers are
+empty too: inside the window it is the image of the first K layers.";
 
 /// What `jk add` does.
 const ADD_HELP: &str = "\
-The archive is a folder that exists. The image is written there as NAME.tmp, which then becomes
-NAME.jp2; a name that is taken is refused. Nothing is printed. Others wait for the folder while a
-file is written, and not while its image is encoded.
+The archive is an existing folder. The image is written there as NAME.tmp, which is then renamed to
+NAME.jp2; a name that exists is an error. Nothing is printed. The folder is locked while a file is
+written, but not while its image is encoded.
 
-With --all the image of each of the files is added under the name of the file without its folder and
-its extension. For each a line is printed in the order of PATHS, `added NAME`, or `refused NAME FAULT`
-as where NAME isn't a name or is taken, the file can't be read, or isn't a PGM or PPM file; the others
-are added all the same. The status is 1 where one was refused.";
+With --all the image of each file is added under the name of that file, without folder and extension.
+One line is printed for each file, in the order of PATHS: `added NAME`, or `refused NAME FAULT` if the
+name isn't valid or exists, or the file can't be read or isn't a PGM or PPM file. The other files are
+added all the same; the status is then 1.";
 
 /// What `jk check` writes.
 const CHECK_HELP: &str = "\
-Each file NAME.jp2 of the folder is read and judged as `jk info` judges it, by its boxes, headers and
-packets; with --decode it is decoded too. For each that is an image a line is written, its SHA-256 and
-its name as `sha256sum` writes them, in the order of the names. With --against FILE, such a list, a
-line is written for each file that differs from it, `changed NAME.jp2`, `missing NAME.jp2` or
-`new NAME.jp2`, and for no other. What isn't an image, or can't be read, is named on standard error.
-The status is 0 where all files are images and none differs, 1 where one isn't or does or the folder
-can't be read, and 2 where the command line is wrong or FILE isn't a list.";
+Reads each file NAME.jp2 of the folder and checks its boxes, headers and packet headers as `jk info`
+does; with --decode it decodes the image too. Prints a line for each file that is an image, its SHA-256
+digest and its name in the format of `sha256sum`, sorted by name. With --against FILE, such a list from
+an earlier run, it prints only the differences: `changed NAME.jp2`, `missing NAME.jp2` or
+`new NAME.jp2`. Files that aren't images or can't be read are reported on standard error.
+
+Exit status: 0 if all files are images and none differs; 1 if one isn't or differs, or the folder can't
+be read; 2 if the command line is wrong or FILE isn't a list.";
 
 /// What `jk serve` answers.
 const SERVE_HELP: &str = "\
 GET /images lists the images, a line each: NAME WIDTH HEIGHT COMPONENTS DEPTH LEVELS.
-GET /images/NAME is the stored file. GET /images/NAME/window?x=N&y=N&w=N&h=N&r=D&layers=K is a
-window of it, as `jk cut` makes it; without r it isn't reduced, and without layers it has all of
-them. What the folder holds when the server starts is listed; files that aren't JP2 files, files
-NAME.tmp of an adding that was broken off, and files that can't be opened are named on standard
-error. A line `add NAME PATH` on standard input adds a PGM or PPM file, which is served from then on,
-and is answered by `added NAME` or `refused NAME FAULT`. It ends when so many connections and
-standard input have ended.
+GET /images/NAME is the stored file. GET /images/NAME/window?x=N&y=N&w=N&h=N&r=D&layers=K is a window
+(a region) of it, as `jk cut` makes it; without r at full resolution, without layers in all of them.
+The server lists what the folder holds when it starts. It reports files that aren't JP2 files, files
+NAME.tmp of an interrupted add, and files that can't be opened on standard error. The line
+`add NAME PATH` on standard input adds a PGM or PPM file, which is served from then on, and prints
+`added NAME` or `refused NAME FAULT`. The server ends after --connections connections, once standard
+input has ended too.
 
 With --open-while-serving the port is open at once, and images are listed as their files are read,
-those that were asked for first; until then they are 404. A file that can't be read is named on
-standard error, as are files beyond 4096 images; the others are served, and the status at the end is
-1. With --watch too, what others add to the folder is served within so many seconds. A file that isn't
-an image is looked at again when its size or its time has changed.";
+requested ones first; until then they are 404. Files that can't be read, and files beyond 4096 images,
+are reported on standard error; the others are served, and the exit status is 1. With --watch, images
+that others add to the folder are served within so many seconds. A rejected file is read again when
+its size or time changes.";
+
+/// What to do about each error.
+const FAULTS_HELP: &str = "\
+What to do:
+F1       use a machine with more memory, fewer threads (--workers), or a window of the image
+F2       get the file again: it was cut off, as in an interrupted transfer
+F3 - F5, F8 - F12
+         the codestream is damaged or doesn't follow T.800: get the file again, or tell who wrote it
+F6, F7   the file may be sound: decode it with another decoder; docs/format.md lists what jk supports
+F13      the JP2 boxes are damaged: get the file again
+F14      convert the image first: `python -m jk.convert`, or `convert IN ppm:OUT`
+F15      see `jk COMMAND --help` for the limits of each option
+F16      `jk info --all` prints the sizes of the image at each reduction
+F17 - F19
+         `GET /images` of the server lists the names; choose another name
+F20      the second line of the error says what the system reported, such as a full disk
+F21      restart the server: it reads its files at the start
+F23      raise the limit of threads or of memory (ulimit), or use fewer --workers";
 
 /// What a word of a command line is.
 #[derive(Clone, Copy)]
@@ -156,21 +175,21 @@ pub(crate) const EXPLAIN: Word<'static> = Word(
 pub(crate) const NO_CLOBBER: Word<'static> = Word(
     "no-clobber",
     Form::Flag,
-    "Never replace a file: if the file to write exists, nothing is written (F20)",
+    "Never replace a file: if the output exists, nothing is written (F20)",
 );
 
 /// That progress and causes aren't printed.
 pub(crate) const QUIET: Word<'static> = Word(
     "quiet",
     Form::Flag,
-    "Print no progress, no notes, and an error as one line without its cause",
+    "Print no progress, no notes, and errors as one line without the cause",
 );
 
 /// How many workers there are.
 const WORKERS: Word<'static> = Word(
     "workers",
     Form::Count("1"),
-    "How many threads to work on the image with, 1 to 64, or auto: one for each processor; the output is the same",
+    "Number of threads, 1 to 64, or auto for one per processor; the output is the same",
 );
 
 /// The numbers of a window.
@@ -261,7 +280,9 @@ pub(crate) fn command<'a>(
 ) -> Result<Command<'a>, AllocError> {
     let mut command = Command::new(alloc, "jk")
         .version(VERSION)
-        .about("A lossless image archive for JPEG 2000, on its reversible path")
+        .about(
+            "Lossless JPEG 2000: encode and decode images, cut regions, keep and serve an archive",
+        )
         .after_help(STATUSES)
         .subcommand_required(true)
         .arg_required_else_help(true);
@@ -310,7 +331,7 @@ static ENCODE_WORDS: [Word<'static>; 6] = [
     Word(
         "raw",
         Form::Flag,
-        "Write a bare codestream, and no JP2 file",
+        "Write a bare codestream (.j2k) instead of a JP2 file",
     ),
     NO_CLOBBER,
     WORKERS,
@@ -319,7 +340,11 @@ static ENCODE_WORDS: [Word<'static>; 6] = [
 
 /// `jk encode IN OUT`.
 fn encode<'a>(alloc: Global, defaults: &'a Defaults) -> Result<Command<'a>, AllocError> {
-    let command = named_command(alloc, "encode", "Encodes a PGM or PPM file");
+    let command = named_command(
+        alloc,
+        "encode",
+        "Encode a PGM or PPM image losslessly to JPEG 2000 (JP2)",
+    );
     let command = with_words(alloc, command, &ENCODE_WORDS)?;
     with_encoding(alloc, command, defaults)
 }
@@ -354,12 +379,12 @@ fn with_levels<'a>(
         Word(
             "layers",
             Form::Default("N", defaults.layers.as_str()),
-            "Layers, 1 to 32",
+            "Quality layers, 1 to 32",
         ),
         Word(
             "order",
             Form::Order(defaults.order),
-            "The order of the packets",
+            "Progression order of the packets",
         ),
     ];
     with_words(alloc, command, &words)
@@ -375,12 +400,12 @@ fn with_blocks<'a>(
         Word(
             "block-x",
             Form::Default("N", defaults.block_x.as_str()),
-            "The width of a code-block is 2^N, N from 2 to 10",
+            "Code-block width 2^N, N from 2 to 10",
         ),
         Word(
             "block-y",
             Form::Default("N", defaults.block_y.as_str()),
-            "The height of a code-block is 2^N; both N are 12 at most in all",
+            "Code-block height 2^N; the sum of both N is at most 12",
         ),
     ];
     with_words(alloc, command, &words)
@@ -391,35 +416,39 @@ static CODING_WORDS: [Word<'static>; 8] = [
     Word(
         "precincts",
         Form::Text("SIZES"),
-        "Precinct size WIDTH,HEIGHT of each resolution, as 128,128; or a byte for each from the lowest on, as in COD: two hexadecimal digits, the exponents of height and width",
+        "Precinct size WIDTH,HEIGHT of all resolutions, such as 128,128; or one byte per resolution from the lowest, as in COD: two hexadecimal digits, the exponents of height and width",
     ),
     Word(
         "windows",
         Form::Flag,
-        "Make windows of the file small: --order RPCL, 8 layers, and precincts of 128 by 128 at each resolution, unless these are given",
+        "Make regions cheap to cut and serve: --order RPCL, 8 layers and precincts of 128 by 128, unless these are given",
     ),
     Word(
         "no-colour",
         Form::Flag,
-        "Leave the components of a colour image as they are",
+        "Don't apply the reversible colour transform (RCT)",
     ),
     Word(
         "reset",
         Form::Flag,
-        "Let the contexts of code-blocks begin anew with each coding pass: a pass hangs less on those before it",
+        "Reset the MQ contexts at each coding pass (RESET)",
     ),
     Word(
         "causal",
         Form::Flag,
-        "Let no stripe of a code-block depend on the stripe of four rows below it, as some hardware asks",
+        "Use vertically causal contexts: no stripe of a code-block depends on the one below it",
     ),
     Word(
         "segments",
         Form::Flag,
-        "End each cleanup pass of code-blocks with a segmentation symbol, by which damage is seen",
+        "End each cleanup pass with a segmentation symbol, by which decoders detect damage",
     ),
-    Word("sop", Form::Flag, "Write SOP before each packet"),
-    Word("eph", Form::Flag, "Write EPH after each packet header"),
+    Word("sop", Form::Flag, "Write an SOP marker before each packet"),
+    Word(
+        "eph",
+        Form::Flag,
+        "Write an EPH marker after each packet header",
+    ),
 ];
 
 /// The options of how large tiles are.
@@ -427,9 +456,9 @@ static TILE_WORDS: [Word<'static>; 2] = [
     Word(
         "tile-width",
         Form::Number("N"),
-        "The width of a tile; with --tile-height",
+        "Tile width; with --tile-height",
     ),
-    Word("tile-height", Form::Number("N"), "The height of a tile"),
+    Word("tile-height", Form::Number("N"), "Tile height"),
 ];
 
 /// The options of where the image lies.
@@ -442,12 +471,12 @@ fn with_origin<'a>(
         Word(
             "x0",
             Form::Default("N", defaults.x0.as_str()),
-            "The column of the upper left sample on the reference grid",
+            "Column of the upper left sample on the reference grid",
         ),
         Word(
             "y0",
             Form::Default("N", defaults.y0.as_str()),
-            "The row of the upper left sample",
+            "Row of the upper left sample",
         ),
     ];
     with_words(alloc, command, &words)
@@ -464,20 +493,20 @@ static DECODE_WORDS: [Word<'static>; 12] = [
     Word(
         "x",
         Form::Window,
-        "The left column of a window; with --y, --w and --h",
+        "Left column of the window to decode; with --y, --w and --h",
     ),
-    Word("y", Form::Window, "The upper row of the window"),
-    Word("w", Form::Window, "How many columns it has"),
-    Word("h", Form::Window, "How many rows it has"),
+    Word("y", Form::Window, "Upper row of the window"),
+    Word("w", Form::Window, "Width of the window in columns"),
+    Word("h", Form::Window, "Height of the window in rows"),
     Word(
         "reduce",
         Form::Default("D", "0"),
-        "How often to halve the image, at most the LEVELS of `jk info`",
+        "Decode at 1/2^D of the size, D at most the LEVELS of `jk info`",
     ),
     Word(
         "layers",
         Form::Number("K"),
-        "How many layers to decode, all where there are fewer; without it all of them",
+        "Decode only the first K quality layers (default: all)",
     ),
     NO_CLOBBER,
     WORKERS,
@@ -490,7 +519,7 @@ fn decode<'a>(alloc: Global) -> Result<Command<'a>, AllocError> {
     let command = explained(
         alloc,
         "decode",
-        "Decodes a JPEG 2000 file, or a window of it, to PGM or PPM",
+        "Decode a JPEG 2000 file, or a region of it, to PGM or PPM",
         DECODE_HELP,
     );
     with_words(alloc, command, &DECODE_WORDS)
@@ -506,12 +535,12 @@ static INFO_WORDS: [Word<'static>; 5] = [
     Word(
         "all",
         Form::Flag,
-        "Print in more lines what decides how small windows get, and what the file carries",
+        "Print more lines: boxes, precincts, code-blocks, markers, sizes at each reduction",
     ),
     Word(
         "json",
         Form::Flag,
-        "Print all that --all prints as an object in JSON, one line for each file",
+        "Print what --all prints as JSON, one object a line for each file",
     ),
     QUIET,
     EXPLAIN,
@@ -522,7 +551,7 @@ fn info<'a>(alloc: Global) -> Result<Command<'a>, AllocError> {
     let command = explained(
         alloc,
         "info",
-        "Prints the size, depth and coding of JPEG 2000 files, a line each, or in JSON",
+        "Print size, bit depth, levels and coding of JPEG 2000 files, as a line each or as JSON",
         INFO_HELP,
     );
     with_words(alloc, command, &INFO_WORDS)
@@ -536,19 +565,19 @@ static CUT_WORDS: [Word<'static>; 11] = [
         Form::Place,
         "The JPEG 2000 file to write, or - for standard output",
     ),
-    Word("x", Form::Required, "The left column of the window"),
-    Word("y", Form::Required, "The upper row of the window"),
-    Word("w", Form::Required, "How many columns it has"),
-    Word("h", Form::Required, "How many rows it has"),
+    Word("x", Form::Required, "Left column of the window"),
+    Word("y", Form::Required, "Upper row of the window"),
+    Word("w", Form::Required, "Width of the window in columns"),
+    Word("h", Form::Required, "Height of the window in rows"),
     Word(
         "reduce",
         Form::Default("D", "0"),
-        "How often to halve the image before, at most the LEVELS of `jk info`",
+        "Cut at 1/2^D of the size, D at most the LEVELS of `jk info`",
     ),
     Word(
         "layers",
         Form::Number("K"),
-        "How many layers to keep, all where there are fewer; without it all of them",
+        "Keep only the first K quality layers (default: all)",
     ),
     NO_CLOBBER,
     QUIET,
@@ -560,7 +589,7 @@ fn cut<'a>(alloc: Global) -> Result<Command<'a>, AllocError> {
     let command = explained(
         alloc,
         "cut",
-        "Cuts a window out of a JPEG 2000 file, without decoding it",
+        "Cut a region (a window) out of a JPEG 2000 file without decoding it",
         CUT_HELP,
     );
     with_words(alloc, command, &CUT_WORDS)
@@ -572,7 +601,7 @@ static ADD_WORDS: [Word<'static>; 6] = [
     Word(
         ONE_NAME,
         Form::PlaceOfOne,
-        "The name of the image: 1 to 64 of a to z, 0 to 9, - and _",
+        "Name of the image: 1 to 64 of a to z, 0 to 9, - and _",
     ),
     Word(
         "IN",
@@ -582,12 +611,12 @@ static ADD_WORDS: [Word<'static>; 6] = [
     Word(
         ALL,
         Form::Paths("PATHS"),
-        "Add the images of these PGM or PPM files, each under the name of its file; in the place of NAME and IN",
+        "Add these PGM or PPM files, each under the name of its file (instead of NAME and IN)",
     ),
     Word(
         "workers",
         Form::CountOfPaths("1"),
-        "With --all, how many images to encode at a time, 1 to 64, or auto; what is added and printed is the same",
+        "With --all, number of images to encode at a time, 1 to 64, or auto; the result is the same",
     ),
     QUIET,
 ];
@@ -597,7 +626,7 @@ fn add<'a>(alloc: Global, defaults: &'a Defaults) -> Result<Command<'a>, AllocEr
     let command = explained(
         alloc,
         "add",
-        "Adds a PGM or PPM file, or many, to an archive",
+        "Add images to an archive, a folder of JP2 files",
         ADD_HELP,
     );
     let command = with_words(alloc, command, &ADD_WORDS)?;
@@ -610,9 +639,9 @@ static CHECK_WORDS: [Word<'static>; 7] = [
     Word(
         "against",
         Form::File("FILE"),
-        "A list that was written before, to compare with, or - for standard input",
+        "Compare with this list of an earlier run, or - for standard input",
     ),
-    Word("decode", Form::Flag, "Judge the code-blocks too"),
+    Word("decode", Form::Flag, "Decode the images too"),
     Word(
         "strict",
         Form::Flag,
@@ -621,7 +650,7 @@ static CHECK_WORDS: [Word<'static>; 7] = [
     Word(
         "workers",
         Form::Count("1"),
-        "How many files to judge at a time, 1 to 64, or auto",
+        "Number of files to check at a time, 1 to 64, or auto",
     ),
     QUIET,
     EXPLAIN,
@@ -632,7 +661,7 @@ fn check<'a>(alloc: Global) -> Result<Command<'a>, AllocError> {
     let command = explained(
         alloc,
         "check",
-        "Checks that the files of an archive are images, and as they were",
+        "Check the files of an archive (fixity): SHA-256 digests and errors",
         CHECK_HELP,
     );
     with_words(alloc, command, &CHECK_WORDS)
@@ -650,42 +679,42 @@ static SERVE_WORDS: [Word<'static>; 11] = [
     Word(
         "port",
         Form::Port,
-        "The port on 127.0.0.1, or 0 for one that is free",
+        "Port on 127.0.0.1, or 0 for any free one",
     ),
     Word(
         "connections",
         Form::Number("K"),
-        "How many connections to take before the end; without it there is none",
+        "End after K connections (default: never)",
     ),
     Word(
         "workers",
         Form::Count("1"),
-        "How many connections to serve, and at the start files to judge, at a time, 1 to 64, or auto",
+        "Number of threads that serve connections, and read files at the start, 1 to 64, or auto",
     ),
     Word(
         "timeout",
         Form::Default("SECONDS", "10"),
-        "How long to wait for a client, 1 to 3600; six times as long for a request or a reply",
+        "Close a connection that is silent this long, 1 to 3600; a whole request or reply may take six times as long",
     ),
     Word(
         OPENING,
         Form::Flag,
-        "Serve at once, and list each image when its file was read and judged",
+        "Open the port at once, and list each image when its file was read and checked",
     ),
     Word(
         "watch",
         Form::Watch("SECONDS"),
-        "List the folder again so often, 1 to 3600, and serve what was added to it",
+        "Look for new files in the folder this often, 1 to 3600",
     ),
     Word(
         "host-names",
         Form::Text("NAMES"),
-        "Answer requests whose Host is one of these alone, as localhost,images.example.org; others are 403",
+        "Answer only requests with one of these Host names, such as localhost,images.example.org; others get 403",
     ),
     Word(
         "log",
         Form::Flag,
-        "Print each request to standard error, why it wasn't answered as asked, and why a connection failed",
+        "Log each request to standard error, with the reason of 4xx and 5xx replies and of failed connections",
     ),
     QUIET,
     EXPLAIN,
@@ -696,7 +725,7 @@ fn serve<'a>(alloc: Global) -> Result<Command<'a>, AllocError> {
     let command = explained(
         alloc,
         "serve",
-        "Serves the images of an archive and windows of them over HTTP/1.1",
+        "Serve the images of an archive, and regions of them, over HTTP",
         SERVE_HELP,
     );
     with_words(alloc, command, &SERVE_WORDS)
@@ -704,10 +733,11 @@ fn serve<'a>(alloc: Global) -> Result<Command<'a>, AllocError> {
 
 /// `jk faults`.
 fn faults<'a>(alloc: Global) -> Result<Command<'a>, AllocError> {
-    let command = named_command(
+    let command = explained(
         alloc,
         "faults",
-        "Lists all faults, each with its number, name and cause",
+        "List all errors: number, name and meaning",
+        FAULTS_HELP,
     );
     with_words(alloc, command, &[EXPLAIN])
 }

@@ -6,17 +6,17 @@ use std::fmt;
 
 /// The line of the fault that only a refused growth of memory makes, so that none can be named
 /// here.
-static MEMORY: &str = "F1 Memory: a growth of memory was refused\n";
+static MEMORY: &str = "F1 Memory: out of memory\n";
 
 /// The causes of the other faults.
 static CAUSES: [(Fault, &str); 21] = [
     (
         Fault::Truncated,
-        "the file, a box or a tile-part ends inside something that was begun, or EOC is missing at the end",
+        "the file, a box or a tile-part is cut off, or EOC is missing at the end",
     ),
     (
         Fault::BadMarker,
-        "a marker that can't stand here, a second one where one is allowed, or a required one absent",
+        "a marker that isn't allowed here, a second one where one is allowed, or a required one is missing",
     ),
     (
         Fault::BadLength,
@@ -24,16 +24,19 @@ static CAUSES: [(Fault, &str); 21] = [
     ),
     (
         Fault::BadValue,
-        "a field has a value that T.800 doesn't allow, or another segmentation symbol stands than is due",
+        "a field has a value that T.800 doesn't allow, or a segmentation symbol is wrong",
     ),
-    (Fault::Unsupported, "T.800 allows it, and jk leaves it out"),
+    (
+        Fault::Unsupported,
+        "allowed by T.800, but not supported by jk",
+    ),
     (
         Fault::Limit,
-        "past a limit of jk, as on samples, coordinates, levels, bit-planes, packets or the length of a tile-part",
+        "past a limit of jk, such as on samples, coordinates, levels, bit-planes, packets or the length of a tile-part",
     ),
     (
         Fault::PacketHeader,
-        "a stuffed bit is 1, the zero bit-planes pass Mb, a length field is wider than 32 bits, or other bytes stand where EPH must",
+        "a stuffed bit is 1, more zero bit-planes than Mb, a length field wider than 32 bits, or EPH is missing",
     ),
     (
         Fault::TooManyPasses,
@@ -49,12 +52,12 @@ static CAUSES: [(Fault, &str); 21] = [
     ),
     (
         Fault::SurplusBytes,
-        "bytes stand after a tile's last packet, or after EOC",
+        "bytes after a tile's last packet or after EOC",
     ),
     (Fault::BadBox, "the structure of the JP2 boxes is broken"),
     (
         Fault::BadPnm,
-        "not a binary PGM or PPM file of a maxval 2^B - 1, B from 1 to 16",
+        "not a binary PGM or PPM file with maxval 2^B - 1, B from 1 to 16",
     ),
     (
         Fault::BadParameters,
@@ -62,26 +65,17 @@ static CAUSES: [(Fault, &str); 21] = [
     ),
     (
         Fault::BadWindow,
-        "a reduction past the least number of levels, no layer, or a window or reduced image without a sample",
+        "more reductions than levels, no layer, or a window or reduced image without samples",
     ),
     (Fault::NoSuchImage, "the name isn't listed"),
-    (
-        Fault::NameTaken,
-        "the name is listed, or waits to be published",
-    ),
+    (Fault::NameTaken, "an image of this name exists"),
     (
         Fault::BadName,
         "not 1 to 64 of the characters a to z, 0 to 9, - and _",
     ),
-    (
-        Fault::Shelf,
-        "a file can't be read or written, or a call of the shelf failed",
-    ),
-    (Fault::Changed, "the file isn't the one that was indexed"),
-    (
-        Fault::WorkerFailed,
-        "a thread couldn't be started, or the catalogue refused a reader",
-    ),
+    (Fault::Shelf, "I/O error: a file can't be read or written"),
+    (Fault::Changed, "the file was changed since it was indexed"),
+    (Fault::WorkerFailed, "a thread couldn't be started"),
 ];
 
 /// The line of a fault on standard error.
@@ -103,7 +97,7 @@ pub fn cause_of(fault: &Fault) -> &'static str {
             return cause;
         }
     }
-    "a growth of memory was refused"
+    "out of memory"
 }
 
 /// All faults in their order, each a line of its number, name and cause.

@@ -84,6 +84,6 @@ pub fn not_pnm(alloc: Global, name: &str, front: &Front) -> Result<String, Alloc
     }
     match format_of(bytes) {
         Some(format) => to_convert(alloc, name, format),
-        None => format!(in alloc; "{name} isn't a PGM or PPM file, which begin with P5 or P6"),
+        None => format!(in alloc; "{name} isn't a PGM or PPM file: these begin with P5 or P6"),
     }
 }

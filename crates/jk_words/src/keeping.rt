@@ -6,42 +6,38 @@ use std::alloc::{AllocError, Global};
 
 /// What `jk dress` does.
 const DRESS_HELP: &str = "\
-Nothing is coded anew: the samples stay as they are, and so do all boxes but the JP2 header box. A
-profile takes the place of what the file tells of colour, and a resolution that of what it tells of
-resolutions; XML and boxes under UUIDs are put behind those that it has, right before the codestream.
-The profile is a restricted one: a matrix of RGB or a curve of grey, of version 2 or 4. OUT may be IN.
-Without an option OUT is as IN. A bare codestream keeps nothing (F15).";
+The image isn't encoded again: samples and all boxes except the JP2 header box stay as they are. A
+profile replaces the colour of the file, a resolution its resolutions; XML and UUID boxes are added
+after existing ones, right before the codestream. The profile must be a restricted ICC profile: a matrix
+profile of RGB or a curve of grey, version 2 or 4. OUT may be IN. Without an option OUT equals IN. A bare
+codestream has no metadata (F15).";
 
 /// What `jk extras` writes.
 const EXTRAS_HELP: &str = "\
-A line is written for each thing, a LABEL, a colon and a value:
-colour: sRGB, grey, sYCC, enumerated=N, profile=SIZE, method=N or broken of each colour box; the
-first that is enumerated or a profile counts
-capture: ACROSSxDOWN, each N/DeE, which is N / D * 10^E samples by the metre
-display: the same, at which the image is to be displayed
-xml: SIZE of each box of XML
-uuid: HEX=SIZE of each box under a UUID
-capture-per-inch, display-per-inch: ACROSSxDOWN, the resolutions by the inch, as 300x300
-With --profile, --xml or --uuid nothing is listed: the profile that counts, the first XML and what
-stands first under a UUID are written to files, all of them or, where the file lacks one, none.";
+Prints a line for each item, a LABEL, a colon and a value:
+colour: sRGB, grey, sYCC, enumerated=N, profile=SIZE, method=N or broken for each colour box; the
+first one that is enumerated or a profile applies
+capture: ACROSSxDOWN, each N/DeE, which is N / D * 10^E samples per metre
+display: the same, the resolution for display
+xml: SIZE of each XML box
+uuid: HEX=SIZE of each UUID box
+capture-per-inch, display-per-inch: ACROSSxDOWN, the resolutions per inch, such as 300x300
+With --profile, --xml or --uuid nothing is listed: the profile that applies, the first XML box and the
+first box of a UUID are written to files. If the file lacks one of them, none is written.";
 
 /// What a file is to keep.
 pub(crate) static KEPT_WORDS: [Word<'static>; 4] = [
-    Word(
-        "profile",
-        Form::File("FILE"),
-        "The ICC profile that the file is to keep",
-    ),
+    Word("profile", Form::File("FILE"), "ICC colour profile to store"),
     Word(
         "resolution",
         Form::Text("N"),
-        "How many samples by the inch it is to tell, as 300 or 300.5, or as 300x600 across and down",
+        "Resolution in samples per inch, such as 300, 300.5, or 300x600 across and down",
     ),
-    Word("xml", Form::File("FILE"), "The XML that it is to keep"),
+    Word("xml", Form::File("FILE"), "XML metadata to store"),
     Word(
         "uuid",
         Form::Files("HEX:FILE"),
-        "A file that it is to keep under a UUID of 32 hexadecimal digits; may be given again",
+        "File to store under a UUID of 32 hexadecimal digits, such as XMP or EXIF; may be given again",
     ),
 ];
 
@@ -61,7 +57,7 @@ pub(crate) fn dress<'a>(alloc: Global) -> Result<Command<'a>, AllocError> {
     let command = explained(
         alloc,
         "dress",
-        "Gives a JP2 file a profile, a resolution, XML or boxes under UUIDs, without coding it anew",
+        "Add metadata to a JP2 file: colour profile, resolution, XML, XMP, EXIF",
         DRESS_HELP,
     );
     let command = with_words(alloc, command, &DRESS_WORDS)?;
@@ -81,7 +77,7 @@ static EXTRAS_WORDS: [Word<'static>; 7] = [
     Word(
         "uuid",
         Form::Files("HEX:OUT"),
-        "Write what stands under this UUID to this file; may be given again",
+        "Write the contents of this UUID box to this file; may be given again",
     ),
     NO_CLOBBER,
     QUIET,
@@ -93,7 +89,7 @@ pub(crate) fn extras<'a>(alloc: Global) -> Result<Command<'a>, AllocError> {
     let command = explained(
         alloc,
         "extras",
-        "Lists what a JPEG 2000 file keeps beside the samples, or takes it out",
+        "List or extract the metadata of a JP2 file",
         EXTRAS_HELP,
     );
     with_words(alloc, command, &EXTRAS_WORDS)

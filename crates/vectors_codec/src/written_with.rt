@@ -83,9 +83,9 @@ fn workers_out_of_range(rt: HostRuntime) {
     }
 }
 
-/// Both code-blocks of each of three components are told once when they begin and once when they
-/// have ended, and the first one is coded only because the second has begun; the bytes are those of
-/// one thread.
+/// The code-blocks of three components are three jobs, each told once when it begins and once when it
+/// has ended, and the first one is coded only because the second has begun; the bytes are those of one
+/// thread.
 #[test]
 fn two_code_at_a_time(rt: HostRuntime) {
     let alloc = rt.alloc();
@@ -94,10 +94,10 @@ fn two_code_at_a_time(rt: HostRuntime) {
     let due = encode(&rt, alloc, &image, &asked);
     for workers in [2, 3] {
         let held = Held {
-            meeting: Meeting::new(alloc, 2).expect(&rt, "an answer"),
+            meeting: Meeting::new(alloc, 3).expect(&rt, "an answer"),
         };
         let file = encode_with(&rt, alloc, workers, &held, &image, &asked).expect(&rt, "an answer");
         equal_at(&rt, workers, file.as_slice(), due.as_slice());
-        equal_at(&rt, workers, held.meeting.was_met(3), true);
+        equal_at(&rt, workers, held.meeting.was_met(1), true);
     }
 }

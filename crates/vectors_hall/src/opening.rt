@@ -102,6 +102,8 @@ impl<'a, R: Wait> Finder for Found<'a, R> {
             length: 167,
             seconds,
             nanos: 0,
+            changed: 0,
+            changed_nanos: 0,
         })
     }
 

@@ -27,7 +27,7 @@ FFD8FFE0 0010|in is a JPEG image; ?
 50330A 31 20 31|in is a plain PPM image (P3); ?
 0000000C 6A502020 0D0A870A|in is a JPEG 2000 file already; `jk decode` makes a PGM or PPM file of it
 FF4F FF51|in is a JPEG 2000 file already; `jk decode` makes a PGM or PPM file of it
-00000000 00000000|in isn't a PGM or PPM file, which begin with P5 or P6
+00000000 00000000|in isn't a PGM or PPM file: these begin with P5 or P6
 50350A 312031 0A 323535 0A|in ends early: its header asks for 1 bytes of samples, and 0 are there
 50360A 322031 0A 3635353335 0A 0102|in ends early: its header asks for 12 bytes of samples, and 2 are there
 50350A 312031 0A 323535 0A 010203|in has 2 bytes after its samples; jk reads files with one image
@@ -50,7 +50,7 @@ static FILES: &str = "\
 50350A 312031|F13 BadBox|in is a PGM or PPM image, and no JPEG 2000 file; `jk encode` makes one of it
 89504E47 0D0A1A0A 0000000D|F13 BadBox|in is a PNG image, and no JPEG 2000 file
 00000000 00000000 00000000|F13 BadBox|in is another file, and no JPEG 2000 file
-FF4F FF51 0029|F2 Truncated|in: the file, a box or a tile-part ends inside something that was begun, or EOC is missing at the end";
+FF4F FF51 0029|F2 Truncated|in: the file, a box or a tile-part is cut off, or EOC is missing at the end";
 
 /// Runs a command line over a file `in`, which fails with an error and its cause.
 fn check_cause<R: Abort + Threads + Sync>(

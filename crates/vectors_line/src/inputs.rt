@@ -1,4 +1,4 @@
-//! How `jk encode` reads its input: whole, or row by row as it encodes it.
+//! How `jk encode` reads its input: row by row as it encodes it.
 
 use crate::lines::{GREY, pixel};
 use crate::memory::{Memory, Reading};
@@ -100,17 +100,16 @@ fn image(rt: &impl Abort, alloc: Global, head: &str, count: usize) -> Vec<u8> {
     image
 }
 
-/// An image that is read as it is encoded has the bytes of the whole one, in pieces of any size, by one
-/// worker or several.
+/// An image has the same file in pieces of any size, by one worker or several.
 #[test]
-fn reads_row_by_row_what_it_reads_whole(rt: HostRuntime) {
+fn files_in_pieces_of_any_size(rt: HostRuntime) {
     let alloc = rt.alloc();
     for (head, count, options) in DRAWN {
         let image = image(&rt, alloc, head, count);
         let mut world = world_with(&rt, alloc, &image);
         let line = format!(in alloc; "encode in whole {options}").expect(&rt, "a text");
         let status = run_line(&rt, alloc, &mut world, line.as_str());
-        equal_at(line.as_str(), (status, world.opened), (Status::Done, 0)).expect(&rt, "the whole");
+        equal_at(line.as_str(), (status, world.opened), (Status::Done, 1)).expect(&rt, "the whole");
         let name = "whole";
         let whole = world.files.remove(name).expect(&rt, "a file");
         for (workers, most) in WAYS {
@@ -122,37 +121,14 @@ fn reads_row_by_row_what_it_reads_whole(rt: HostRuntime) {
     }
 }
 
-/// How many bytes the file of a pixel has, on both sides of what is encoded whole, options, and how
-/// many files are read as they are encoded.
-static SIZES: [(usize, &str, usize); 8] = [
-    (1_048_575, "", 0),
-    (1_048_575, "--workers 2", 0),
-    (1_048_576, "", 1),
-    (1_048_576, "--workers 2", 0),
-    (2_097_151, "--workers 2", 0),
-    (2_097_152, "--workers 2", 1),
-    (100, "--tile-width 1 --tile-height 1", 1),
-    (100, "--tile-width 1 --tile-height 1 --workers 2", 1),
-];
-
-/// The sides of code-blocks, how they are written (T.800 table A.18), and how many files of 2 MiB are
-/// read as two workers encode them.
-static BLOCKS: [(&str, &str, usize); 3] = [
-    (
-        "--block-x 2 --block-y 5",
-        "FF52 000C 00 00 0001 00 00 00 03 00 01",
-        0,
-    ),
-    (
-        "--block-x 2 --block-y 6",
-        "FF52 000C 00 00 0001 00 00 00 04 00 01",
-        1,
-    ),
-    (
-        "--block-x 5 --block-y 7",
-        "FF52 000C 00 00 0001 00 00 03 05 00 01",
-        0,
-    ),
+/// How many bytes the file of a pixel has, and options.
+static SIZES: [(usize, &str); 6] = [
+    (100, ""),
+    (100, "--workers 2"),
+    (100, "--tile-width 1 --tile-height 1"),
+    (100, "--tile-width 1 --tile-height 1 --workers 2"),
+    (1_048_576, ""),
+    (2_097_152, "--workers 2"),
 ];
 
 /// Encodes a pixel whose file has a comment and so many bytes.
@@ -162,7 +138,6 @@ fn check_size<R: Abort + Threads + Sync>(
     size: usize,
     options: &str,
     due: &[u8],
-    count: usize,
 ) {
     let end = bytes(rt, alloc, &["0A", GREY]);
     let mut image = bytes(rt, alloc, &["50350A23"]);
@@ -174,29 +149,16 @@ fn check_size<R: Abort + Threads + Sync>(
         .expect(rt, "an image");
     let mut world = world_with(rt, alloc, &image);
     let line = format!(in alloc; "encode in out --levels 0 {options}").expect(rt, "a text");
-    check_done(rt, &mut world, line.as_str(), due, count);
+    check_done(rt, &mut world, line.as_str(), due, 1);
 }
 
-/// A small file is read whole, if its image isn't cut into tiles.
+/// A file of any size is read as it is encoded.
 #[test]
-fn sizes_and_tiles_say_how_a_file_is_read(rt: HostRuntime) {
+fn files_of_all_sizes(rt: HostRuntime) {
     let alloc = rt.alloc();
     let due = bytes(&rt, alloc, &pixel());
-    for (size, options, count) in SIZES {
-        check_size(&rt, alloc, size, options, &due, count);
-    }
-}
-
-/// So is, by several workers, a larger one in very small or high code-blocks.
-#[test]
-fn code_blocks_say_how_a_file_is_read(rt: HostRuntime) {
-    let alloc = rt.alloc();
-    for (sides, coding, count) in BLOCKS {
-        let mut due = pixel();
-        due[3] = coding;
-        let due = bytes(&rt, alloc, &due);
-        let options = format!(in alloc; "--workers 2 {sides}").expect(&rt, "a text");
-        check_size(&rt, alloc, 2_097_152, options.as_str(), &due, count);
+    for (size, options) in SIZES {
+        check_size(&rt, alloc, size, options, &due);
     }
 }
 

@@ -97,24 +97,20 @@ fn faults_of_the_file_go_first(rt: HostRuntime) {
     check_full(&rt, rt.alloc(), DAMAGED, "jk: F5 BadValue\n");
 }
 
-/// Options for code-blocks of 64 and of 32 coefficients, and how many outputs are held where workers
-/// decode them.
-static BLOCKS: [(&str, usize); 2] = [
-    ("--block-x 3 --block-y 3", 1),
-    ("--block-x 2 --block-y 3", 0),
-];
+/// Options for code-blocks of 64 and of 32 coefficients.
+static BLOCKS: [&str; 2] = ["--block-x 3 --block-y 3", "--block-x 2 --block-y 3"];
 
-/// Workers decode code-blocks row by row that have 64 coefficients at least, and smaller ones whole.
+/// Workers decode code-blocks of any size row by row: the output is held.
 #[test]
-fn small_code_blocks_are_decoded_whole(rt: HostRuntime) {
+fn small_code_blocks_come_row_by_row(rt: HostRuntime) {
     let alloc = rt.alloc();
-    for (options, held) in BLOCKS {
+    for options in BLOCKS {
         let line = format!(in alloc; "encode - - {options}").expect(&rt, "a text");
         let file = written(&rt, alloc, line.as_str(), bytes(&rt, alloc, &[TEXT]));
         let mut world = Memory::new(&rt, alloc, file);
         let text = bytes(&rt, alloc, &[TEXT]);
         let line = "decode - - --workers 2";
         check_run(&rt, alloc, &mut world, line, Status::Done, &text, "");
-        equal_at(options, world.held, held).expect(&rt, "outputs held");
+        equal_at(options, world.held, 1).expect(&rt, "outputs held");
     }
 }

@@ -139,7 +139,7 @@ fn work_is_told_of(rt: HostRuntime) {
 /// A command line over an image 130 wide, in standard input and in the file `in`, how many rows it has,
 /// and how often workers tell of code-blocks.
 static CODED: [(&str, usize, u64); 4] = [
-    ("encode in - --levels 0 --workers 2", 70, 6),
+    ("encode in - --levels 0 --workers 2", 70, 3),
     ("encode - - --levels 0 --workers 2", 70, 3),
     (
         "encode in - --levels 0 --workers 2 --tile-width 130 --tile-height 70",
@@ -150,9 +150,8 @@ static CODED: [(&str, usize, u64); 4] = [
 ];
 
 /// An image three code-blocks wide and two high without levels has six code-blocks (T.800 B.7). Several
-/// workers tell of each, where it is encoded whole; row by row of small ones together, here of the
-/// narrow one at the right and the three low ones behind it, and of two tiles twice as often. One
-/// worker tells nothing.
+/// workers tell of large ones one by one and of small ones together, here of the narrow one at the
+/// right and the three low ones behind it, and of two tiles twice as often. One worker tells nothing.
 #[test]
 fn code_blocks_are_counted(rt: HostRuntime) {
     let alloc = rt.alloc();

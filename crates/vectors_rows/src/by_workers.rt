@@ -55,6 +55,8 @@ struct Kept {
 impl Rows for Kept {
     ghost took = { λ _ _ _. Unit {0} };
 
+    ghost refused = { λ _ _ _ _. ⊥ };
+
     fn take(&mut self, _alloc: Global, rows: Image) -> Result<(), Fault> {
         self.counts.push(rows.height())?;
         let planes = rows.planes();

@@ -1,5 +1,5 @@
-//! Images decoded and encoded row by row beside whole ones, whole files by several workers, and windows of files, with
-//! answers from outside.
+//! Images decoded and encoded row by row, by one worker and by several, and windows of files, with answers from
+//! outside.
 #![tactic(auto)]
 
 #[cfg(test)]
@@ -16,8 +16,6 @@ mod encoding_by_workers;
 mod files;
 #[cfg(test)]
 mod sources;
-#[cfg(test)]
-mod suiting;
 #[cfg(test)]
 mod tests;
 #[cfg(test)]

@@ -1,4 +1,4 @@
-//! Images by chance, decoded row by row and whole: the rows one below the other are the whole image.
+//! Images by chance, decoded row by row: the rows one below the other are the image that was encoded.
 
 ghost use Rattle.std.specs.Prelude.{◌≤◌};
 
@@ -19,6 +19,8 @@ struct Whole {
 
 impl Rows for Whole {
     ghost took = { λ _ _ _. Unit {0} };
+
+    ghost refused = { λ _ _ _ _. ⊥ };
 
     fn take(&mut self, alloc: Global, rows: Image) -> Result<(), Fault> {
         self.stripes = self.stripes.saturating_add(1);
@@ -41,9 +43,14 @@ struct Full {
 }
 
 impl Rows for Full {
+    ghost use Rattle.std.specs.Prelude.{◌≡◌};
+    ghost use Rattle.jk_math.specs.declared.fault.Fault.TheVariants.{Shelf};
+
     ghost took = { λ _ _ _. Unit {0} };
 
-    fn take(&mut self, alloc: Global, rows: Image) -> Result<(), Fault> {
+    ghost refused = { λ _ _ e _. e ≡ Shelf };
+
+    fn take(&mut self, _alloc: Global, _rows: Image) -> Result<(), Fault> {
         if self.left == 0 {
             return Err(Fault::Shelf);
         }
@@ -52,11 +59,22 @@ impl Rows for Full {
     }
 }
 
-/// Decodes a file row by row in steps of so many rows, beside the whole.
-fn rows_beside_whole(
+/// Whether these are the planes of an image.
+fn are_planes(rt: &impl Abort, planes: &[Vec<i32>], due: &Image) {
+    equal(planes.len(), due.planes().len()).expect(rt, "the components");
+    for c in 0..due.planes().len() {
+        let rows = planes.get(c).expect(rt, "a plane");
+        equal_at(c, rows.as_slice(), due.planes().plane(c)).expect(rt, "the samples");
+    }
+}
+
+/// Decodes a file row by row in steps of so many rows: they are this image, or, where none is given, what
+/// all rows in one step are, with its fault.
+fn rows_in_steps(
     rt: &impl Abort,
     alloc: Global,
     file: &[u8],
+    due: Option<&Image>,
     reduce: u32,
     step: u32,
 ) -> Result<(), Fail>
@@ -67,19 +85,17 @@ fn rows_beside_whole(
         planes: Vec::new(alloc),
     };
     let told = decode_rows(alloc, file, reduce, step, &mut whole);
+    if let Some(image) = due {
+        equal(told, Ok(())).expect(rt, "no fault");
+        are_planes(rt, &whole.planes, image);
+        return Ok(());
+    }
     match decode(alloc, file, reduce) {
-        Ok(due) => {
-            equal(told, Ok(())).expect(rt, "what is due");
-            equal(whole.planes.len(), due.planes().len()).expect(rt, "what is due");
-            for c in 0..due.planes().len() {
-                let rows = whole.planes.get(c).expect(rt, "a plane");
-                equal_at((reduce, step, c), rows.as_slice(), due.planes().plane(c)).expect(
-                    rt,
-                    "what is due",
-                );
-            }
+        Ok(image) => {
+            equal(told, Ok(())).expect(rt, "no fault");
+            are_planes(rt, &whole.planes, &image);
         }
-        Err(fault) => equal(told, Err(fault)).expect(rt, "what is due"),
+        Err(fault) => equal(told, Err(fault)).expect(rt, "the fault"),
     }
     Ok(())
 }
@@ -98,7 +114,7 @@ fn refused(rt: &impl Abort, alloc: Global, file: &[u8], left: usize) {
 fn one_case(rt: &impl Abort, alloc: Global, chance: &mut Chance) -> Result<(), Fail> {
     let kind = Kind {
         columns: 24,
-        rows: 30,
+        rows: 130,
         bits: 8,
         signed: false,
     };
@@ -109,14 +125,15 @@ fn one_case(rt: &impl Abort, alloc: Global, chance: &mut Chance) -> Result<(), F
     };
     let reduce = chance.below(given.levels as u32 + 1);
     let step = 1 + chance.below(20);
-    rows_beside_whole(rt, alloc, &file, reduce, step)?;
+    rows_in_steps(rt, alloc, &file, Some(&image), 0, step)?;
+    rows_in_steps(rt, alloc, &file, None, reduce, step)?;
     refused(rt, alloc, &file, chance.below(3) as usize);
     let mut damaged = file;
     let at = damaged.len().saturating_sub(1 + chance.below(20) as usize);
     if let Some(byte) = damaged.get_mut(at) {
         *byte ^= 0x5A;
     }
-    rows_beside_whole(rt, alloc, &damaged, reduce, step)?;
+    rows_in_steps(rt, alloc, &damaged, None, reduce, step)?;
     refused(rt, alloc, &damaged, 1);
     Ok(())
 }

@@ -27,17 +27,17 @@ class Fault(ValueError):
 
 
 class Memory(Fault, MemoryError):
-    number, cause = 1, "a growth of memory was refused"
+    number, cause = 1, "out of memory"
 
 
 class Truncated(Fault):
     number = 2
-    cause = "the file, a box or a tile-part ends inside something that was begun, or EOC is missing at the end"
+    cause = "the file, a box or a tile-part is cut off, or EOC is missing at the end"
 
 
 class BadMarker(Fault):
     number = 3
-    cause = "a marker that can't stand here, a second one where one is allowed, or a required one absent"
+    cause = "a marker that isn't allowed here, a second one where one is allowed, or a required one is missing"
 
 
 class BadLength(Fault):
@@ -47,25 +47,25 @@ class BadLength(Fault):
 
 class BadValue(Fault):
     number = 5
-    cause = "a field has a value that T.800 doesn't allow, or another segmentation symbol stands than is due"
+    cause = "a field has a value that T.800 doesn't allow, or a segmentation symbol is wrong"
 
 
 class Unsupported(Fault):
-    number, cause = 6, "T.800 allows it, and jk leaves it out"
+    number, cause = 6, "allowed by T.800, but not supported by jk"
 
 
 class Limit(Fault):
     number = 7
     cause = (
-        "past a limit of jk, as on samples, coordinates, levels, bit-planes, packets or the length of a tile-part"
+        "past a limit of jk, such as on samples, coordinates, levels, bit-planes, packets or the length of a tile-part"
     )
 
 
 class PacketHeader(Fault):
     number = 8
     cause = (
-        "a stuffed bit is 1, the zero bit-planes pass Mb, a length field is wider than 32 bits, "
-        "or other bytes stand where EPH must"
+        "a stuffed bit is 1, more zero bit-planes than Mb, a length field wider than 32 bits, "
+        "or EPH is missing"
     )
 
 
@@ -82,7 +82,7 @@ class MissingPackets(Fault):
 
 
 class SurplusBytes(Fault):
-    number, cause = 12, "bytes stand after a tile's last packet, or after EOC"
+    number, cause = 12, "bytes after a tile's last packet or after EOC"
 
 
 class BadBox(Fault):
@@ -95,7 +95,7 @@ class BadParameters(Fault):
 
 class BadWindow(Fault):
     number = 16
-    cause = "a reduction past the least number of levels, no layer, or a window or reduced image without a sample"
+    cause = "more reductions than levels, no layer, or a window or reduced image without samples"
 
 
 class NoSuchImage(Fault):
@@ -103,11 +103,11 @@ class NoSuchImage(Fault):
 
 
 class Shelf(Fault):
-    number, cause = 20, "a file can't be read or written, or a call of the shelf failed"
+    number, cause = 20, "I/O error: a file can't be read or written"
 
 
 class Changed(Fault):
-    number, cause = 21, "the file isn't the one that was indexed"
+    number, cause = 21, "the file was changed since it was indexed"
 
 
 class Short(Fault):

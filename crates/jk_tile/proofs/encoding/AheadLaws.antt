@@ -1,8 +1,8 @@
 -- Code-blocks that are coded before the rows of them in which they stand.
-use Rattle.std.proofs.Common.{◌≡◌, ℕ, ◌+◌, ◌<◌, List, [], ◌∷◌, ◌++◌, append_assoc, length, map, take, drop, reverse, All, get_or, Result, Ok, Err, IfOk, sym, ap, subst, ◌∙◌, refl}
+use Rattle.std.proofs.Common.{◌≡◌, ℕ, ◌+◌, ◌<◌, List, [], ◌∷◌, ◌++◌, append_assoc, map, take, drop, reverse, All, Result, Ok, Err, IfOk, sym, ap, subst, ◌∙◌, refl}
 use Rattle.std.specs.Global.{Vec}
 use Rattle.std.specs.List.{flat_map, AllZip}
-use Rattle.std.proofs.lemmas.List.{append-nil, map-append, reverse-append, take_more}
+use Rattle.std.proofs.lemmas.List.{append-nil, map-append, reverse-append}
 use Rattle.std.proofs.lemmas.List.Elements.{All-push, All-take, All-drop}
 use Rattle.std.proofs.lemmas.Grind.{flat_map-append}
 use Rattle.std.proofs.Math.Seq.{take-add}
@@ -11,13 +11,6 @@ use Rattle.jk_block.specs.declared.decoding.Block.{Block}
 use Rattle.jk_tile.specs.encoding.Layered.{Layered}
 use Rattle.jk_tile.specs.encoding.Ahead.{IsCodable, layered_block, IsGroup, layered_group, IsGroupCoded}
 use Rattle.jk_tile.specs.declared.encoding.ahead.GroupJob.{GroupJob}
-
--- one more of a group is coded
-pub coded_more : (layers : ℕ) (blocks : List Block) (i : ℕ) (b : Block) (k : Layered) (old new : List Layered) → i < length blocks → b ≡ get_or blocks i b → k ≡ layered_block layers b → old ≡ map (layered_block layers) (take i blocks) → new ≡ old ++ k ∷ []
-    → new ≡ map (layered_block layers) (take (i + 1) blocks)
-coded_more layers blocks i b k old new lt eb ek was is =
-    let f = layered_block layers in
-    is ∙ ap (λ (l : List Layered). l ++ k ∷ []) was ∙ ap (λ (x : Layered). map f (take i blocks) ++ x ∷ []) (ek ∙ ap f eb) ∙ sym (map-append f (take i blocks) (get_or blocks i b ∷ [])) ∙ ap (map f) (sym (take_more blocks i b lt))
 
 -- ---- groups
 

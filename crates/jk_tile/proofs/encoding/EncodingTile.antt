@@ -28,16 +28,16 @@ use Rattle.jk_walk.proofs.Laws.{its_precinct, all_of}
 use Rattle.jk_wave.specs.Analysis.{analysed_bands}
 use Rattle.jk_tile.specs.encoding.Forward.{tile_value}
 use Rattle.jk_tile.specs.encoding.Needs.{exponents_for}
-use Rattle.jk_tile.specs.encoding.TileWritten.{WrittenBands, AreWrittenBands, coefficient_of}
+use Rattle.jk_tile.specs.encoding.TileWritten.{WrittenBands, coefficient_of}
 use Rattle.jk_tile.specs.encoding.PacketsWritten.{Tables, written_packet, written_text, precinct_tables, written_coding, written_shape, tile_tables, tile_text}
-use Rattle.jk_tile.specs.encoding.TileWriters.{component_lists, tile_items, list_of, tables_in, index_of, IsPrecinctList, AreLists}
+use Rattle.jk_tile.specs.encoding.TileWriters.{tile_items, list_of, tables_in, index_of, IsPrecinctList, AreLists}
 use Rattle.jk_math.specs.Lists.{lists_of}
 use Rattle.jk_tile.proofs.encoding.TileIndex.{tile_at, tile_length, level_few}
 use Rattle.jk_tile.proofs.encoding.TileAreas.{tile_is_area}
 use Rattle.jk_tile.proofs.encoding.PacketsFew.{count_is, few_below}
 use Rattle.jk_tile.specs.encoding.TilesFrom.{written_component, tile_lists, IsOutlineOf}
 use Rattle.jk_tile.specs.declared.encoding.written.TileOutline.{TileOutline}
-use Rattle.jk_tile.proofs.encoding.WrittenTile.{planes_have, coding_is, are_written, tables_same, precinct_fits}
+use Rattle.jk_tile.proofs.encoding.WrittenTile.{planes_have, coding_is, tables_same, precinct_fits}
 
 -- ---- few packets
 
@@ -208,29 +208,10 @@ precincts_few p q t a k is by tile ea ek r le =
     let few = few_below (written_shape p q t) (written_coding p q) asked.shape asked.alike asked.few in
     level_few a k r (omega (arith, le)) (subst (λ (b : Rect). precincts_below b k (k.levels + 1) ≤ 2 ^ 24) (sym ea) (subst (λ (j : Coding). precincts_below (tile_area (siz_of p q) t) j (j.levels + 1) ≤ 2 ^ 24) (sym ek) few))
 
-pub bands_written : (p : Picture) (q : Parameters) (t : ℕ) (a : Rect) (k : Coding) (bands lent : List (List (List ℤ))) → IsPicture p → IsWrittenBy q p → t < tile_count (siz_of p q) → a ≡ tile_area (siz_of p q) t → k ≡ written_coding p q
-    → bands ≡ map (λ i. analysed_bands (tile_area (siz_of p q) t) q.levels (tile_value p q.colour i)) (range_with_len 0 (length p.planes)) → lent ≡ bands
-    → (c : ℕ) → c < length lent → AreWrittenBands (source_from a k q.layers lent c)
-bands_written p q t a k bands lent is by tile ea ek eb el c lt =
-    let e = el ∙ eb in
-    let count = bands_count p q t lent e in
-    let some : c < length p.planes = omega (arith, lt, count) in
-    subst AreWrittenBands (sym (source_is p q t c a k lent ea ek some e)) (are_written p q t c is by tile some)
-
 joined_same : {X : Type 0} (f g : ℕ → List X) (a n : ℕ) → ((i : ℕ) → a ≤ i → i < a + n → f i ≡ g i) → flat_map f (range_with_len a n) ≡ flat_map g (range_with_len a n)
 joined_same f g a zero same = refl
 joined_same {X} f g a (suc n) same =
     ap (λ (xs : List X). xs ++ flat_map f (range_with_len (a + 1) n)) (same a (omega arith) (omega arith)) ∙ ap (λ (xs : List X). g a ++ xs) (joined_same f g (a + 1) n (λ i from below. same i (omega (arith, from)) (omega (arith, below))))
-
--- the lists that are made of the sub-bands of all components are those of the tile
-pub lists_made : (p : Picture) (q : Parameters) (t : ℕ) (a : Rect) (k : Coding) (bands lent : List (List (List ℤ))) (lists : List (List Table)) → a ≡ tile_area (siz_of p q) t → k ≡ written_coding p q
-    → bands ≡ map (λ i. analysed_bands (tile_area (siz_of p q) t) q.levels (tile_value p q.colour i)) (range_with_len 0 (length p.planes)) → lent ≡ bands
-    → lists ≡ flat_map (λ c. component_lists (source_from a k q.layers lent c)) (range_with_len 0 (length lent))
-    → lists ≡ tile_lists p q t
-lists_made p q t a k bands lent lists ea ek eb el e =
-    let count = bands_count p q t lent (el ∙ eb) in
-    e ∙ joined_same (λ c. component_lists (source_from a k q.layers lent c)) (λ c. component_lists (written_component p q t c)) 0 (length lent) (λ i from lt. ap component_lists (source_is p q t i a k lent ea ek (omega (arith, lt, count)) (el ∙ eb)))
-    ∙ ap (λ n. flat_map (λ c. component_lists (written_component p q t c)) (range_with_len 0 n)) count
 
 -- the text of the packets
 pub text_made : (p : Picture) (q : Parameters) (t : ℕ) (a : Rect) (k : Coding) (s : TileShape) (lent tables : List (Vec Table)) (out : List ℕ) → s ≡ written_shape p q t → lent ≡ tables → AreTileLists p q t a k (lists_of tables)

@@ -1,6 +1,5 @@
 -- From samples to what the wavelet takes.
-use Rattle.std.proofs.Common.{◌≡◌, ℕ, zero, suc, ◌+◌, ◌-◌, ◌*◌, ◌^◌, ◌<◌, ◌≤◌, Bool, true, false, List, [], ◌∷◌, ◌++◌, length, map, get_or, All, ℤ, pos, negsuc, ◌-ℤ◌, ◌≤ℤ◌, unsigned_abs, refl, sym, ap, subst, ◌∙◌, inl, inr, arith}
-use Rattle.std.specs.List.{range_with_len}
+use Rattle.std.proofs.Common.{◌≡◌, ℕ, zero, suc, ◌+◌, ◌-◌, ◌*◌, ◌^◌, ◌<◌, ◌≤◌, Bool, true, false, List, [], ◌∷◌, ◌++◌, length, get_or, All, ℤ, pos, negsuc, ◌-ℤ◌, ◌≤ℤ◌, unsigned_abs, refl, sym, ap, subst, ◌∙◌, inl, inr, arith}
 use Rattle.std.proofs.Math.Pow.{pow_mono}
 use Rattle.std.proofs.Math.Nat.{pow-suc}
 use Rattle.std.proofs.lemmas.Nat.{row_fits}
@@ -15,7 +14,7 @@ use Rattle.jk_math.specs.Signed.{IsBelow, signed_at}
 use Rattle.jk_math.proofs.Laws.{IsPlaceOf, raster_length, raster_entry, entry_place}
 use Rattle.jk_rct.specs.Colour.{y0_of, y1_of, y2_of}
 use Rattle.jk_rct.proofs.Laws.{keeps_range}
-use Rattle.std.proofs.lemmas.List.FromFn.{length-map-range_with_len, get_or-map-range_with_len, map-range_with_len_more}
+use Rattle.std.proofs.lemmas.List.FromFn.{length-map-range_with_len, get_or-map-range_with_len}
 use Rattle.jk_marks.specs.declared.siz.Siz.{Siz}
 use Rattle.jk_geom.specs.Rectangles.{IsArea, IsWithin, tile_area}
 use Rattle.jk_params.specs.declared.parameters.Parameters.{Parameters}
@@ -70,9 +69,6 @@ levelled_small p c x y is lt h =
     let fits : (y - p.y0) * p.width + p.width ≤ p.height * p.width = row_fits (y - p.y0) p.width p.height p.width (omega (arith, upper, lower)) (omega arith) in
     let turned : p.height * p.width ≡ p.width * p.height = omega arith in
     list_in_range p.depth p.signed (get_or p.planes c []) ((y - p.y0) * p.width + (x - p.x0)) is.components.some_bits is.components.few_bits (omega (arith, fits, turned, left, right, plane.count)) plane.range
-
-abbrev IsSixteen : ℤ → Type 0
-IsSixteen z = unsigned_abs z ≤ 65535
 
 small_abs : (z : ℤ) → IsLevelled z → unsigned_abs z ≤ 65535
 small_abs z h = omega (arith, ints, h.0, h.1)
@@ -170,9 +166,6 @@ plane_below p c is lt =
     (omega (arith, ints, low, high, zl, zh), omega (arith, ints, low, high, zl, zh)))
 
 -- ---- the sub-bands
-
-pub bands_push : (f : ℕ → List (List ℤ)) (n : ℕ) (old new : List (List (List ℤ))) (v : List (List ℤ)) → old ≡ map f (range_with_len 0 n) → new ≡ old ++ v ∷ [] → v ≡ f n → new ≡ map f (range_with_len 0 (n + 1))
-bands_push f n old new v eo e ev = e ∙ ap (λ (ls : List (List (List ℤ))). ls ++ v ∷ []) eo ∙ ap (λ (l : List (List ℤ)). map f (range_with_len 0 n) ++ l ∷ []) ev ∙ sym (map-range_with_len_more f 0 n n (omega arith))
 
 -- ---- how many bit-planes they need
 

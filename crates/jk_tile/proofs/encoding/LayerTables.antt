@@ -115,10 +115,6 @@ pub ends_of : (s : BlockShape) (values : List ℤ) (layers : ℕ) (k : Coded) (p
 ends_of s values layers k parts e ep =
     subst (λ ps. AreEnds 0 ps (length k.bytes)) (sym ep) (subst (λ (c : Coded). AreEnds 0 (parts_for layers c) (length c.bytes)) (sym e) (parts_end s values layers))
 
-pub table_by : (layers planes zero_planes : ℕ) (k : Coded) (parts : List LayerPart) (t : Table) → zero_planes ≡ planes - k.planes → parts ≡ parts_for layers k → t ≡ table_of zero_planes 0 parts k.bytes → t ≡ coded_table layers planes k
-table_by layers planes zero_planes k parts t ez ep e =
-    e ∙ ap (λ z. table_of z 0 parts k.bytes) ez ∙ ap (λ ps. table_of (planes - k.planes) 0 ps k.bytes) ep ∙ sym (table_is layers planes k)
-
 -- the bytes up to a layer that isn't the last
 pub early_is : (layers : ℕ) (k : Coded) (l room : ℕ) → 0 < passes_upto layers k.planes l → l + 1 < layers → room ≡ min (length k.bytes) (get_or k.marks (passes_upto layers k.planes l - 1) 0 + 4) → bytes_upto layers k l ≡ without_ff k.bytes room
 unfolding bytes_upto

@@ -1,4 +1,4 @@
--- A tile whose rows come in stripes: what a stripe has of it, and how many bits its sub-bands need.
+-- A tile whose rows come: what an image has of it, and how many bits its sub-bands need.
 use Rattle.std.proofs.Common.{◌≡◌, ℕ, suc, ◌+◌, ◌<◌, Bool, List, length, max, ℤ, sym, ap, subst, ◌∙◌, arith}
 use Rattle.jk_math.specs.declared.rect.Rect.{Rect}
 use Rattle.jk_math.specs.Picture.{Picture}
@@ -9,27 +9,25 @@ use Rattle.jk_tile.specs.Filling.{IsPartOf}
 use Rattle.jk_tile.specs.encoding.Forward.{picture_area, tile_value}
 use Rattle.jk_tile.specs.encoding.Needs.{most}
 use Rattle.jk_tile.specs.encoding.Strips.{ComponentFrame, IsFrame}
-use Rattle.jk_tile.specs.encoding.FallingTiles.{IsStripeOf, GivesTile}
+use Rattle.jk_tile.specs.encoding.FallingTiles.{HasRowsFor, GivesTile}
 
--- ---- a stripe
+-- ---- rows of an image
 
--- the rows that it has
-abbrev pub stripe_rows : ComponentFrame → Picture → Rect
-stripe_rows s v = rows_between s.rect v.y0 (v.y0 + v.height)
-
-pub stripe_part : (s : ComponentFrame) (y : ℕ) (v : Picture) (part : Rect) → IsFrame s → IsStripeOf s y v → part ≡ stripe_rows s v → IsPartOf part (picture_area v)
-stripe_part s y v part frame is e =
+-- those of the tile
+pub rows_part : (s : ComponentFrame) (y e : ℕ) (v : Picture) (part : Rect) → IsFrame s → HasRowsFor s y e v → part ≡ rows_between s.rect y e → IsPartOf part (picture_area v)
+rows_part s y e v part frame is same =
     let left = is.left in let right = is.right in
+    let upper = is.upper in let order = is.order in let lower = is.lower in
     let across = frame.area.left in
-    subst (λ (a : Rect). IsPartOf a (picture_area v)) (sym e) (record { left = left; across = across; right = right; upper = omega arith; down = omega arith; lower = omega arith })
+    subst (λ (a : Rect). IsPartOf a (picture_area v)) (sym same) (record { left = left; across = across; right = right; upper = upper; down = order; lower = lower })
 
--- its values are those of f
-pub stripe_values : (s : ComponentFrame) (colours : Bool) (v : Picture) (part : Rect) (f : ℕ → ℕ → ℕ → ℤ) (c y e : ℕ) (values : List ℤ) → c < length v.planes → part ≡ stripe_rows s v → v.y0 ≡ y → v.y0 + v.height ≡ e → GivesTile s colours v f
-    → values ≡ raster part (tile_value v colours c) → values ≡ raster (rows_between s.rect y e) (f c)
-stripe_values s colours v part f c y e values lt ep ey ee gives is =
-    is ∙ ap (λ (a : Rect). raster a (tile_value v colours c)) ep
-    ∙ raster_same (stripe_rows s v) (tile_value v colours c) (f c) (λ x z h. gives c x z lt (record { left = h.left; right = h.right; upper = h.upper; lower = h.lower }))
-    ∙ ap (λ n. raster (rows_between s.rect n (v.y0 + v.height)) (f c)) ey ∙ ap (λ n. raster (rows_between s.rect y n) (f c)) ee
+-- their values are those of f
+pub rows_values : (s : ComponentFrame) (colours : Bool) (v : Picture) (part : Rect) (f : ℕ → ℕ → ℕ → ℤ) (c y e from : ℕ) (values : List ℤ) → c < length v.planes → part ≡ rows_between s.rect y e → y ≡ from → GivesTile s colours v y e f
+    → values ≡ raster part (tile_value v colours c) → values ≡ raster (rows_between s.rect from e) (f c)
+rows_values s colours v part f c y e from values lt same at gives is =
+    is ∙ ap (λ (a : Rect). raster a (tile_value v colours c)) same
+    ∙ raster_same (rows_between s.rect y e) (tile_value v colours c) (f c) (λ x z h. gives c x z lt (record { left = h.left; right = h.right; upper = h.upper; lower = h.lower }))
+    ∙ ap (λ n. raster (rows_between s.rect n e) (f c)) at
 
 -- ---- how many bits are needed
 

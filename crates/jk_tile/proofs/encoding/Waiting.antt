@@ -79,12 +79,22 @@ at_end b1 p y t some order within all = elim all [
       ])
 ]
 
--- one row more stays within
-pub one_more : (b : Rect) (e y t : ℕ) → y ≤ t → t < b.y1 → (y < t → t < row_end b e y) → t + 1 ≤ row_end b e y
-one_more b e y t order inside missing = elim (cases_lt y t) [
-  | inl behind ↦ (let less = missing behind in omega (arith, less))
-  | inr here ↦ (let to = cell_to y (2 ^ e) (pow_pos e) in omega (arith, to, here, order, inside))
+-- rows that stand in the row of code-blocks of the next one stay within
+stays : (b1 p y t end : ℕ) → 0 < p → y ≤ t → t < b1 → (y < t → t < min b1 ((y / p + 1) * p)) → end ≤ b1 → end ≤ (t / p + 1) * p → end ≤ min b1 ((y / p + 1) * p)
+stays b1 p y t end some order inside missing last within = elim (cases_lt y t) [
+  | inl behind ↦
+      let less = missing behind in
+      let few : t / p ≤ y / p = elim (cases_lt (y / p) (t / p)) [
+        | inl more ↦ (let up : (y / p + 1) * p ≤ t / p * p = mul-le-mul_right p (omega (arith, more)) in let low = cell_from t p in absurd (omega (arith, up, low, less)))
+        | inr few ↦ few
+      ] in
+      let up : (t / p + 1) * p ≤ (y / p + 1) * p = mul-le-mul_right p (omega (arith, few)) in
+      omega (arith, up, last, within)
+  | inr here ↦ (let same : t ≡ y = omega (arith, here, order) in let up = ap (λ n. (n / p + 1) * p) same in omega (arith, up, last, within))
 ]
+
+pub rows_stay : (b : Rect) (e y t end : ℕ) → y ≤ t → t < b.y1 → (y < t → t < row_end b e y) → end ≤ b.y1 → end ≤ (t / 2 ^ e + 1) * 2 ^ e → end ≤ row_end b e y
+rows_stay b e y t end order inside missing last within = stays b.y1 (2 ^ e) y t end (pow_pos e) order inside missing last within
 
 -- ---- magnitudes
 
@@ -123,28 +133,31 @@ bits_none (x ∷ xs) e = absurd (omega (arith, e))
 
 -- ---- rows
 
-pub places_more : (a b : Rect) → b.x0 ≡ a.x0 → b.x1 ≡ a.x1 → b.y0 ≡ a.y0 → b.y1 ≡ a.y1 + 1 → a.y0 ≤ a.y1 → places_of b ≡ places_of a + columns_of a
-places_more a b e0 e1 e2 e3 order =
+parted : (m n w : ℕ) → (m + n) * w ≡ m * w + n * w
+parted m n w = grind arith
+
+pub places_more : (a b : Rect) (end : ℕ) → b.x0 ≡ a.x0 → b.x1 ≡ a.x1 → b.y0 ≡ a.y0 → b.y1 ≡ end → a.y0 ≤ a.y1 → a.y1 ≤ end → places_of b ≡ places_of a + (end - a.y1) * columns_of a
+places_more a b end e0 e1 e2 e3 order more =
     let w : columns_of b ≡ columns_of a = omega (arith, e0, e1) in
-    let h : b.y1 - b.y0 ≡ a.y1 - a.y0 + 1 = omega (arith, e2, e3, order) in
-    ap (λ m. m * columns_of b) h ∙ ap (λ m. (a.y1 - a.y0 + 1) * m) w ∙ (let one : (a.y1 - a.y0 + 1) * columns_of a ≡ (a.y1 - a.y0) * columns_of a + columns_of a = omega arith in one)
+    let h : b.y1 - b.y0 ≡ a.y1 - a.y0 + (end - a.y1) = omega (arith, e2, e3, order, more) in
+    ap (λ m. m * columns_of b) h ∙ ap (λ m. (a.y1 - a.y0 + (end - a.y1)) * m) w ∙ parted (a.y1 - a.y0) (end - a.y1) (columns_of a)
 
--- those of a rectangle with one more, which has the columns of another
-pub rows_more : (a b band : Rect) (f : ℕ → ℕ → ℤ) (old row : List ℤ) → a.x0 ≡ band.x0 → a.x1 ≡ band.x1 → b ≡ record { x0 = a.x0; y0 = a.y0; x1 = a.x1; y1 = a.y1 + 1 } → a.y0 ≤ a.y1
-    → old ≡ raster a f → row ≡ raster (rows_between band a.y1 (a.y1 + 1)) f → old ++ row ≡ raster b f
-rows_more a b band f old row left right is order eo er =
-    let own : rows_between a a.y1 (a.y1 + 1) ≡ rows_between band a.y1 (a.y1 + 1) =
-    ap (λ x. record { x0 = x; y0 = a.y1; x1 = a.x1; y1 = a.y1 + 1 }) left ∙ ap (λ x. record { x0 = band.x0; y0 = a.y1; x1 = x; y1 = a.y1 + 1 }) right in
-    ap (λ (xs : List ℤ). xs ++ row) eo ∙ ap (λ (xs : List ℤ). raster a f ++ xs) (er ∙ ap (λ (r : Rect). raster r f) (sym own))
-    ∙ joined a a.y0 a.y1 (a.y1 + 1) f order (omega arith) ∙ ap (λ (r : Rect). raster r f) (sym is)
+-- those of a rectangle with more of them, which have the columns of another
+pub rows_more : (a b band : Rect) (end : ℕ) (f : ℕ → ℕ → ℤ) (old rows : List ℤ) → a.x0 ≡ band.x0 → a.x1 ≡ band.x1 → b ≡ record { x0 = a.x0; y0 = a.y0; x1 = a.x1; y1 = end } → a.y0 ≤ a.y1 → a.y1 ≤ end
+    → old ≡ raster a f → rows ≡ raster (rows_between band a.y1 end) f → old ++ rows ≡ raster b f
+rows_more a b band end f old rows left right is order more eo er =
+    let own : rows_between a a.y1 end ≡ rows_between band a.y1 end =
+    ap (λ x. record { x0 = x; y0 = a.y1; x1 = a.x1; y1 = end }) left ∙ ap (λ x. record { x0 = band.x0; y0 = a.y1; x1 = x; y1 = end }) right in
+    ap (λ (xs : List ℤ). xs ++ rows) eo ∙ ap (λ (xs : List ℤ). raster a f ++ xs) (er ∙ ap (λ (r : Rect). raster r f) (sym own))
+    ∙ joined a a.y0 a.y1 end f order more ∙ ap (λ (r : Rect). raster r f) (sym is)
 
-pub bits_more : (band : Rect) (y bits tops : ℕ) (f : ℕ → ℕ → ℤ) (row : List ℤ) → band.y0 ≤ y → bits ≡ bit_length (greatest (raster (rows_between band band.y0 y) f)) → tops ≡ bit_length (greatest row)
-    → row ≡ raster (rows_between band y (y + 1)) f → max bits tops ≡ bit_length (greatest (raster (rows_between band band.y0 (y + 1)) f))
-bits_more band y bits tops f row from was top is =
+pub bits_more : (band : Rect) (y end bits tops : ℕ) (f : ℕ → ℕ → ℤ) (rows : List ℤ) → band.y0 ≤ y → y ≤ end → bits ≡ bit_length (greatest (raster (rows_between band band.y0 y) f)) → tops ≡ bit_length (greatest rows)
+    → rows ≡ raster (rows_between band y end) f → max bits tops ≡ bit_length (greatest (raster (rows_between band band.y0 end) f))
+bits_more band y end bits tops f rows from more was top is =
     let upper = raster (rows_between band band.y0 y) f in
-    let lower = raster (rows_between band y (y + 1)) f in
+    let lower = raster (rows_between band y end) f in
     ap (λ n. max n tops) was ∙ ap (λ n. max (bit_length (greatest upper)) n) (top ∙ ap (λ (xs : List ℤ). bit_length (greatest xs)) is)
-    ∙ sym (bits_joined upper lower) ∙ ap (λ (xs : List ℤ). bit_length (greatest xs)) (joined band band.y0 y (y + 1) f from (omega arith))
+    ∙ sym (bits_joined upper lower) ∙ ap (λ (xs : List ℤ). bit_length (greatest xs)) (joined band band.y0 y end f from more)
 
 -- nothing waits
 pub none_wait : (a : Rect) (f : ℕ → ℕ → ℤ) → a.y1 ≤ a.y0 → raster a f ≡ []
@@ -350,7 +363,7 @@ coded_rows s f b w rest values strip room blocks holds is has = record {
     own : values ≡ raster w.area g
     own = is.values_are ∙ All-head (λ (y : WaitingRow). y.values.items ≡ raster y.area g) w rest.items (subst (HaveValues g) is.waiting has.waiting)
 
--- ---- one row more
+-- ---- more rows
 
 -- whether a row of code-blocks is whole
 pub starts : (a y p : ℕ) → (leb a y || nat_eq (y % p) 0) ≡ true → (a ≤ y) ⊎ (y % p ≡ 0)
@@ -362,43 +375,44 @@ starts a y p e = elim (or_cases (leb a y) (nat_eq (y % p) 0) e) [
 pub not_start : (a y p : ℕ) → (leb a y || nat_eq (y % p) 0) ≡ false → (y < a) × (y % p ≡ 0 → ⊥)
 not_start a y p e = let both = or_parts (leb a y) (nat_eq (y % p) 0) e in (leb-false a y both.0, eqb-false (y % p) 0 both.1)
 
--- with the next row behind those that wait
-pub record IsLonger (b mid : BandStrips) (row : List ℤ) (tops : ℕ) : Type 0 where
+-- with the next rows behind those that wait
+pub record IsLonger (b mid : BandStrips) (end : ℕ) (rows : List ℤ) (tops : ℕ) : Type 0 where
   pub resolution : mid.resolution ≡ b.resolution
   pub band : mid.band ≡ b.band
-  pub area : mid.area ≡ record { x0 = b.area.x0; y0 = b.area.y0; x1 = b.area.x1; y1 = b.area.y1 + 1 }
+  pub area : mid.area ≡ record { x0 = b.area.x0; y0 = b.area.y0; x1 = b.area.x1; y1 = end }
   pub bits : mid.bits ≡ max b.bits tops
-  pub strip : mid.strip.items ≡ b.strip.items ++ row
+  pub strip : mid.strip.items ≡ b.strip.items ++ rows
   pub blocks : mid.blocks.items ≡ b.blocks.items
   pub top : mid.top ≡ b.top
   pub waiting : mid.waiting.items ≡ b.waiting.items
 
-pub longer_holds : (s : ComponentFrame) (b mid : BandStrips) (row : List ℤ) (tops : ℕ) → IsBetweenRows s b → b.area.y1 < (own_band s b).y1 → length row ≡ columns_of b.area → tops ≡ bit_length (greatest row) → tops ≤ 23
-    → IsLonger b mid row tops → HoldsRows s mid
-longer_holds s b mid row tops (holds, missing) inside long top few is = record {
+pub longer_holds : (s : ComponentFrame) (b mid : BandStrips) (end : ℕ) (rows : List ℤ) (tops : ℕ) → IsBetweenRows s b → b.area.y1 < end → end ≤ (own_band s b).y1
+    → end ≤ (b.area.y1 / 2 ^ block_exponent s.coding b.resolution + 1) * 2 ^ block_exponent s.coding b.resolution → length rows ≡ (end - b.area.y1) * columns_of b.area → tops ≡ bit_length (greatest rows) → tops ≤ 23
+    → IsLonger b mid end rows tops → HoldsRows s mid
+longer_holds s b mid end rows tops (holds, missing) some inside within long top few is = record {
   resolution = subst (λ n. n ≤ s.coding.levels) (sym is.resolution) holds.resolution;
   band = subst (λ n. mid.band < length (orientations n)) (sym is.resolution) (subst (λ n. n < length (orientations b.resolution)) (sym is.band) holds.band);
   bounds = subst IsArea own holds.bounds;
   left = ap (λ (a : Rect). a.x0) is.area ∙ holds.left ∙ ap (λ (a : Rect). a.x0) own;
   right = ap (λ (a : Rect). a.x1) is.area ∙ holds.right ∙ ap (λ (a : Rect). a.x1) own;
   upper = (let e = ap (λ (a : Rect). a.y0) own in let upper = holds.upper in omega (arith, e, upper, first));
-  order = (let order = holds.order in omega (arith, first, last, order));
+  order = (let order = holds.order in omega (arith, first, last, order, some));
   lower = (let e = ap (λ (a : Rect). a.y1) own in omega (arith, e, inside, last));
   start = λ less. (let e = ap (λ (a : Rect). a.y1) own in
       first ∙ holds.start (omega (arith, less, first, e)) ∙ ap (λ y. max (own_band s b).y0 (y / 2 ^ block_exponent s.coding b.resolution * 2 ^ block_exponent s.coding b.resolution)) (sym first)
       ∙ ap (λ (a : Rect). max a.y0 (mid.area.y0 / 2 ^ block_exponent s.coding b.resolution * 2 ^ block_exponent s.coding b.resolution)) own
       ∙ ap (λ r. max (own_band s mid).y0 (mid.area.y0 / 2 ^ block_exponent s.coding r * 2 ^ block_exponent s.coding r)) (sym is.resolution));
-  within = λ some. (let more = one_more (own_band s b) (block_exponent s.coding b.resolution) b.area.y0 b.area.y1 holds.order inside missing in
+  within = λ _. (let more = rows_stay (own_band s b) (block_exponent s.coding b.resolution) b.area.y0 b.area.y1 end holds.order (omega (arith, some, inside)) missing inside within in
       let same : row_end (own_band s mid) (block_exponent s.coding mid.resolution) mid.area.y0 ≡ row_end (own_band s b) (block_exponent s.coding b.resolution) b.area.y0 =
       ap (λ r. row_end (own_band s mid) (block_exponent s.coding r) mid.area.y0) is.resolution ∙ ap (λ (a : Rect). row_end a (block_exponent s.coding b.resolution) mid.area.y0) (sym own)
       ∙ ap (row_end (own_band s b) (block_exponent s.coding b.resolution)) first in
       omega (arith, more, same, last));
-  long = ap (λ (l : List ℤ). length l) is.strip ∙ length-append b.strip.items row ∙ ap (λ n. n + length row) holds.long ∙ ap (λ n. places_of b.area + n) long
-      ∙ sym (places_more b.area mid.area (ap (λ (a : Rect). a.x0) is.area) (ap (λ (a : Rect). a.x1) is.area) first last holds.order);
+  long = ap (λ (l : List ℤ). length l) is.strip ∙ length-append b.strip.items rows ∙ ap (λ n. n + length rows) holds.long ∙ ap (λ n. places_of b.area + n) long
+      ∙ sym (places_more b.area mid.area end (ap (λ (a : Rect). a.x0) is.area) (ap (λ (a : Rect). a.x1) is.area) first last holds.order (omega (arith, some)));
   few = (let e = is.bits in let old = holds.few in omega (arith, e, old, few));
   below = subst (All (λ v. unsigned_abs v < 2 ^ mid.bits)) (sym is.strip)
-      (All-append (λ v. unsigned_abs v < 2 ^ mid.bits) b.strip.items row (below_more b.bits mid.bits b.strip.items (let e = is.bits in omega (arith, e)) holds.below)
-      (below_more tops mid.bits row (let e = is.bits in omega (arith, e)) (subst (λ n. All (λ v. unsigned_abs v < 2 ^ n) row) (sym top) (below_own row))));
+      (All-append (λ v. unsigned_abs v < 2 ^ mid.bits) b.strip.items rows (below_more b.bits mid.bits b.strip.items (let e = is.bits in omega (arith, e)) holds.below)
+      (below_more tops mid.bits rows (let e = is.bits in omega (arith, e)) (subst (λ n. All (λ v. unsigned_abs v < 2 ^ n) rows) (sym top) (below_own rows))));
   count = ap (λ (l : List (Vec Layered)). length l) is.blocks ∙ holds.count ∙ ap (precinct_number s.rect s.coding) (sym is.resolution);
   planes = subst (λ (l : List (Vec Layered)). HavePlanes mid.bits (lists_of l)) (sym is.blocks) (planes_more b.bits mid.bits (lists_of b.blocks.items) (let e = is.bits in omega (arith, e)) holds.planes);
   waiting = subst (AreWaiting s mid.resolution mid.band mid.bits mid.top mid.area.y0) (sym is.waiting)
@@ -415,12 +429,12 @@ longer_holds s b mid row tops (holds, missing) inside long top few is = record {
     first : mid.area.y0 ≡ b.area.y0
     first = ap (λ (a : Rect). a.y0) is.area
 
-    last : mid.area.y1 ≡ b.area.y1 + 1
+    last : mid.area.y1 ≡ end
     last = ap (λ (a : Rect). a.y1) is.area
 
-pub longer_rows : (s : ComponentFrame) (f : ℕ → ℕ → ℕ → ℤ) (b mid : BandStrips) (row : List ℤ) (tops : ℕ) → HoldsRows s b → tops ≡ bit_length (greatest row) → IsLonger b mid row tops
-    → row ≡ raster (rows_between (own_band s b) b.area.y1 (b.area.y1 + 1)) (f (band_number b.resolution b.band)) → HasRowsOf s f b → HasRowsOf s f mid
-longer_rows s f b mid row tops holds top is rows has =
+pub longer_rows : (s : ComponentFrame) (f : ℕ → ℕ → ℕ → ℤ) (b mid : BandStrips) (end : ℕ) (list : List ℤ) (tops : ℕ) → HoldsRows s b → b.area.y1 < end → tops ≡ bit_length (greatest list) → IsLonger b mid end list tops
+    → list ≡ raster (rows_between (own_band s b) b.area.y1 end) (f (band_number b.resolution b.band)) → HasRowsOf s f b → HasRowsOf s f mid
+longer_rows s f b mid end list tops holds some top is rows has =
     let g = f (band_number b.resolution b.band) in
     let band = own_band s b in
     let from : band.y0 ≤ b.area.y1 = (let upper = holds.upper in let order = holds.order in omega (arith, upper, order)) in
@@ -432,26 +446,19 @@ longer_rows s f b mid row tops holds top is rows has =
           ∙ ap (λ i. map (layered_at s f mid.resolution n i) (range_with_len 0 (blocks_above (grid_at s.rect s.coding mid.resolution n i) mid.top))) (sym is.band);
       waiting = subst (HaveValues (f (band_number mid.resolution mid.band))) (sym is.waiting)
           (subst (λ r. HaveValues (f (band_number r mid.band)) b.waiting.items) (sym is.resolution) (subst (λ i. HaveValues (f (band_number b.resolution i)) b.waiting.items) (sym is.band) has.waiting));
-      strip = is.strip ∙ rows_more b.area mid.area band g b.strip.items row holds.left holds.right is.area holds.order has.strip rows
+      strip = is.strip ∙ rows_more b.area mid.area band end g b.strip.items list holds.left holds.right is.area holds.order (omega (arith, some)) has.strip rows
           ∙ ap (λ r. raster mid.area (f (band_number r b.band))) (sym is.resolution) ∙ ap (λ i. raster mid.area (f (band_number mid.resolution i))) (sym is.band);
-      bits = is.bits ∙ bits_more band b.area.y1 b.bits tops g row from has.bits top rows
+      bits = is.bits ∙ bits_more band b.area.y1 end b.bits tops g list from (omega (arith, some)) has.bits top rows
           ∙ ap (λ y. bit_length (greatest (raster (rows_between band band.y0 y) g))) (sym (ap (λ (a : Rect). a.y1) is.area))
           ∙ ap (λ r. bit_length (greatest (raster (rows_between (band_at s r b.band) (band_at s r b.band).y0 mid.area.y1) (f (band_number r b.band))))) (sym is.resolution)
           ∙ ap (λ i. bit_length (greatest (raster (rows_between (band_at s mid.resolution i) (band_at s mid.resolution i).y0 mid.area.y1) (f (band_number mid.resolution i))))) (sym is.band);
     }
 
--- a row of some
-pub row_of_rows : (band : Rect) (from to y w : ℕ) (f : ℕ → ℕ → ℤ) (rows : List ℤ) → from ≤ y → y < to → w ≡ columns_of band → rows ≡ raster (rows_between band from to) f
-    → take w (drop ((y - from) * w) rows) ≡ raster (rows_between band y (y + 1)) f
-row_of_rows band from to y w f rows low high wide is =
-    cut_rows (rows_between band from to) y (y + 1) ((y - from) * w) w f rows low (omega arith) (omega (arith, high)) is (ap (λ n. (y - from) * n) wide)
-    (wide ∙ (let one : columns_of band ≡ 1 * columns_of band = omega arith in one) ∙ ap (λ n. n * columns_of band) (let d : 1 ≡ y + 1 - y = omega arith in d))
-
-pub row_fits_in : (from to y w n : ℕ) → from ≤ y → y < to → n ≡ (to - from) * w → (y - from) * w + w ≤ n
-row_fits_in from to y w n low high long =
-    let fits : (y - from + 1) * w ≤ (to - from) * w = mul-le-mul_right w (omega (arith, low, high)) in
-    let one : (y - from + 1) * w ≡ (y - from) * w + w = omega arith in
-    omega (arith, fits, one, long)
+-- some of a list of rows
+pub rows_of_rows : (band : Rect) (from to y end w n : ℕ) (f : ℕ → ℕ → ℤ) (rows : List ℤ) → from ≤ y → y ≤ end → end ≤ to → w ≡ columns_of band → n ≡ (end - y) * w → rows ≡ raster (rows_between band from to) f
+    → take n (drop ((y - from) * w) rows) ≡ raster (rows_between band y end) f
+rows_of_rows band from to y end w n f rows low order high wide count is =
+    cut_rows (rows_between band from to) y end ((y - from) * w) n f rows low order high is (ap (λ m. (y - from) * m) wide) (count ∙ ap (λ m. (end - y) * m) wide)
 
 -- what the calls gave of the sub-band and its code-blocks
 pub band_given : (s : ComponentFrame) (b : BandStrips) (rect area : Rect) (k : Coding) (o : Orientation) → b.band < length (orientations b.resolution) → rect ≡ s.rect → k ≡ s.coding → o ≡ orientation_at b.resolution b.band → area ≡ band_area rect k.levels b.resolution o → area ≡ own_band s b
@@ -551,21 +558,30 @@ first_rows s f b area count is =
 pub band_same : (s : ComponentFrame) (b cur : BandStrips) → cur.resolution ≡ b.resolution → cur.band ≡ b.band → own_band s cur ≡ own_band s b
 band_same s b cur er ei = ap (λ r. band_at s r cur.band) er ∙ ap (band_at s b.resolution) ei
 
-pub columns_same : (s : ComponentFrame) (b cur : BandStrips) → HoldsRows s b → HoldsRows s cur → cur.resolution ≡ b.resolution → cur.band ≡ b.band → columns_of b.area ≡ columns_of cur.area
-columns_same s b cur was now er ei =
-    let same = band_same s b cur er ei in
-    let x0 = ap (λ (a : Rect). a.x0) same in let x1 = ap (λ (a : Rect). a.x1) same in
-    let bl = was.left in let br = was.right in let cl = now.left in let cr = now.right in
-    omega (arith, x0, x1, bl, br, cl, cr)
-
 pub columns_own : (s : ComponentFrame) (b : BandStrips) → HoldsRows s b → columns_of b.area ≡ columns_of (own_band s b)
 columns_own s b holds = let l = holds.left in let r = holds.right in omega (arith, l, r)
 
-pub row_given : (s : ComponentFrame) (b cur : BandStrips) (y : ℕ) (f : ℕ → ℕ → ℕ → ℤ) (row : List ℤ) → cur.resolution ≡ b.resolution → cur.band ≡ b.band → cur.area.y1 ≡ y
-    → row ≡ raster (rows_between (own_band s b) y (y + 1)) (f (band_number b.resolution b.band)) → row ≡ raster (rows_between (own_band s cur) cur.area.y1 (cur.area.y1 + 1)) (f (band_number cur.resolution cur.band))
-row_given s b cur y f row er ei ey e =
-    e ∙ ap (λ r. raster (rows_between (band_at s r b.band) y (y + 1)) (f (band_number r b.band))) (sym er) ∙ ap (λ i. raster (rows_between (band_at s cur.resolution i) y (y + 1)) (f (band_number cur.resolution i))) (sym ei)
-    ∙ ap (λ m. raster (rows_between (own_band s cur) m (m + 1)) (f (band_number cur.resolution cur.band))) (sym ey)
+pub rows_given : (s : ComponentFrame) (b cur : BandStrips) (end : ℕ) (f : ℕ → ℕ → ℕ → ℤ) (rows : List ℤ) → cur.resolution ≡ b.resolution → cur.band ≡ b.band
+    → rows ≡ raster (rows_between (own_band s b) cur.area.y1 end) (f (band_number b.resolution b.band)) → rows ≡ raster (rows_between (own_band s cur) cur.area.y1 end) (f (band_number cur.resolution cur.band))
+rows_given s b cur end f rows er ei e =
+    e ∙ ap (λ r. raster (rows_between (band_at s r b.band) cur.area.y1 end) (f (band_number r b.band))) (sym er) ∙ ap (λ i. raster (rows_between (band_at s cur.resolution i) cur.area.y1 end) (f (band_number cur.resolution i))) (sym ei)
+
+-- the columns of its rows
+pub columns_same : (s : ComponentFrame) (b cur : BandStrips) → HoldsRows s b → HoldsRows s cur → cur.resolution ≡ b.resolution → cur.band ≡ b.band → columns_of cur.area ≡ columns_of b.area
+columns_same s b cur was is er ei =
+    let same = band_same s b cur er ei in
+    let left = ap (λ (a : Rect). a.x0) same in
+    let right = ap (λ (a : Rect). a.x1) same in
+    let l = was.left in let r = was.right in let ll = is.left in let rr = is.right in
+    omega (arith, left, right, l, r, ll, rr)
+
+-- some of the rows of a list that has so many lie in it
+pub rows_inside : (from y end to w long : ℕ) → from ≤ y → y ≤ end → end ≤ to → long ≡ (to - from) * w → (y - from) * w + (end - y) * w ≤ long
+rows_inside from y end to w long low order high is =
+    let size : (y - from) + (end - y) ≡ end - from = omega (arith, low, order) in
+    let some : (y - from) * w + (end - y) * w ≡ (end - from) * w = sym (parted (y - from) (end - y) w) ∙ ap (λ n. n * w) size in
+    let whole : (end - from) * w ≤ (to - from) * w = mul-le-mul_right w (omega (arith, high)) in
+    omega (arith, some, whole, is)
 
 pub row_long : (w k n : ℕ) (rows : List ℤ) → k + w ≤ length rows → w ≡ n → length (take w (drop k rows)) ≡ n
 row_long w k n rows fits e = length-take-le w (drop k rows) (rw length-drop (omega (arith, fits))) ∙ e

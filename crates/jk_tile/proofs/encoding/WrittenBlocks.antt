@@ -1,5 +1,5 @@
 -- The code-blocks of a tile-component that is written.
-use Rattle.std.proofs.Common.{◌≡◌, ℕ, zero, suc, ◌+◌, ◌-◌, ◌*◌, ◌^◌, ◌<◌, ◌≤◌, List, [], ◌∷◌, ◌++◌, append_assoc, length, map, All, ℤ, pos, unsigned_abs, refl, sym, ap, subst, ◌∙◌, arith}
+use Rattle.std.proofs.Common.{◌≡◌, ℕ, zero, suc, ◌+◌, ◌-◌, ◌*◌, ◌^◌, ◌<◌, ◌≤◌, List, [], ◌∷◌, ◌++◌, length, map, All, ℤ, pos, unsigned_abs, refl, sym, ap, subst, ◌∙◌, arith}
 use Rattle.std.proofs.lemmas.List.Elements.{All-get_or, All-from_get_or}
 use Rattle.std.proofs.lemmas.Nat.{pow_pos}
 use Rattle.std.specs.List.{flat_map, range_with_len}
@@ -23,7 +23,6 @@ use Rattle.jk_block.proofs.Laws.{greatest_bounds, greatest_small}
 use Rattle.jk_wave.specs.Bands.{high_orientation, numbered_area}
 use Rattle.jk_walk.specs.TilePackets.{orientations, band_number, planes_of}
 use Rattle.jk_packet.specs.Written.{Table}
-use Rattle.jk_tile.specs.encoding.PacketsWritten.{coded_table}
 use Rattle.jk_tile.specs.Filling.{IsPartOf}
 use Rattle.jk_tile.specs.TileBlocks.{orientation_at, grid_at, block_at_place, shape_of_area, block_shape, IsBlockShape}
 use Rattle.jk_tile.specs.encoding.TileWritten.{WrittenBands, AreWrittenBands, band_of, coefficient_of, block_list, coded_at}
@@ -78,12 +77,6 @@ values_are s r n i j area place plane values ea ep el e =
     e ∙ ap (λ (b : Rect). raster b (plane_at area plane)) ep ∙ ap (λ (a : Rect). raster (block_at_place s.rect s.coding r n i j) (plane_at a plane)) ea
     ∙ ap (λ (l : List ℤ). raster (block_at_place s.rect s.coding r n i j) (plane_at (numbered_area s.rect s.coding.levels (band_number r i)) l)) el
 
-pub shape_of_block : (s : WrittenBands) (r n i j : ℕ) (place : Rect) (o : Orientation) (t : Style) (shape : BlockShape) → place ≡ block_at_place s.rect s.coding r n i j → o ≡ orientation_at r i → t ≡ s.coding.style → shape ≡ shape_of_area place o t
-    → shape ≡ block_shape s.rect s.coding r n i j
-shape_of_block s r n i j place o t shape ep eo et e =
-    e ∙ ap (λ (b : Rect). shape_of_area b o t) ep ∙ ap (λ (q : Orientation). shape_of_area (block_at_place s.rect s.coding r n i j) q t) eo
-    ∙ ap (shape_of_area (block_at_place s.rect s.coding r n i j) (orientation_at r i)) et
-
 pub shape_fits : (s : WrittenBands) (r n i j : ℕ) → AreWrittenBands s → j < block_number (grid_at s.rect s.coding r n i) → IsBlockShape (block_shape s.rect s.coding r n i j)
 shape_fits s r n i j are lt = block_is_shape s.rect s.coding r n i j are.coding lt
 
@@ -129,20 +122,9 @@ planes_room s r n i j are le lt few =
 pub grid_of : (s : WrittenBands) (r n i : ℕ) (rect : Rect) (coding : Coding) (o : Orientation) (grid : BlockGrid) → rect ≡ s.rect → coding ≡ s.coding → o ≡ orientation_at r i → grid ≡ block_grid rect coding r n o → grid ≡ grid_at s.rect s.coding r n i
 grid_of s r n i rect coding o grid er ec eo e = e ∙ ap (λ (a : Rect). block_grid a coding r n o) er ∙ ap (λ (k : Coding). block_grid s.rect k r n o) ec ∙ ap (block_grid s.rect s.coding r n) eo
 
-pub few_of : (s : WrittenBands) (r n i j : ℕ) (grid : BlockGrid) → grid ≡ grid_at s.rect s.coding r n i → j < grid.across * grid.down → j < block_number (grid_at s.rect s.coding r n i)
-few_of s r n i j grid e lt = subst (λ (g : BlockGrid). j < g.across * g.down) e lt
-
 pub room_of : (s : WrittenBands) (r n i j planes : ℕ) (k : Coded) → AreWrittenBands s → r ≤ s.coding.levels → i < length (orientations r) → j < block_number (grid_at s.rect s.coding r n i)
     → k ≡ coded_at s.rect s.coding (coefficient_of s) r n i j → planes ≡ planes_of s.coding (band_number r i) → k.planes ≤ planes
 room_of s r n i j planes k are le lt few e ep = let room = planes_room s r n i j are le lt few in let same = ap (λ (c : Coded). c.planes) e in omega (arith, room, same, ep)
-
-pub tables_more : (f : ℕ → Table) (n : ℕ) (front old new : List Table) (t : Table) → old ≡ front ++ map f (range_with_len 0 n) → new ≡ old ++ t ∷ [] → t ≡ f n → new ≡ front ++ map f (range_with_len 0 (n + 1))
-tables_more f n front old new t eo e et =
-    e ∙ ap (λ (ts : List Table). ts ++ t ∷ []) eo ∙ ap (λ (x : Table). (front ++ map f (range_with_len 0 n)) ++ x ∷ []) et ∙ append_assoc front (map f (range_with_len 0 n)) (f n ∷ [])
-    ∙ ap (λ (ts : List Table). front ++ ts) (sym (map-range_with_len_more f 0 n n (omega arith)))
-
-pub table_made : (layers planes due : ℕ) (k c : Coded) (t : Table) → t ≡ coded_table layers planes k → planes ≡ due → k ≡ c → t ≡ coded_table layers due c
-table_made layers planes due k c t e ep ek = e ∙ ap (λ p. coded_table layers p k) ep ∙ ap (coded_table layers due) ek
 
 pub bands_more : (g : ℕ → List Table) (n : ℕ) (old new : List Table) → old ≡ flat_map (λ ts. ts) (map g (range_with_len 0 n)) → new ≡ old ++ g n → new ≡ flat_map (λ ts. ts) (map g (range_with_len 0 (n + 1)))
 bands_more g n old new eo e =

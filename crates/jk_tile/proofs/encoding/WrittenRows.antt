@@ -33,9 +33,6 @@ small_read values k lt small =
     let low = s.0 in let high = s.1 in
     to_z-of_z w32 (signed_at values k) (omega (arith, ints, low, high))
 
-pub small_entry : (values : List ℤ) (k : ℕ) → k < length values → All (IsBelow (2 ^ 28)) values → IsBelow (2 ^ 28) (to_z w32 (of_z w32 (signed_at values k)))
-small_entry values k lt small = rw (small_read values k lt small) (All-get_or (IsBelow (2 ^ 28)) values k (pos 0) lt small)
-
 -- a number that is passed on
 pub passed_small : (z : ℤ) → IsBelow (2 ^ 29) z → to_z w32 (of_z w32 z) ≡ z
 passed_small z h = let low = h.0 in let high = h.1 in to_z-of_z w32 z (omega (arith, ints, low, high))

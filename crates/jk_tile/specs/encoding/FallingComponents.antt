@@ -2,7 +2,9 @@
 -- strips of its sub-bands hold between two steps.
 use Rattle.std.specs.Prelude.{◌≡◌, ℕ, ◌+◌, ◌-◌, ◌*◌, ◌/◌, ◌^◌, ◌<◌, ◌≤◌, ◌==◌, if◌then◌else◌, List, [], length}
 use Rattle.std.specs.Prelude.{slice_index_or, ℤ, unsigned_abs}
+use Rattle.jk_math.specs.BitLength.{bit_length}
 use Rattle.jk_math.specs.Raster.{raster}
+use Rattle.jk_block.specs.BlockWritten.{greatest}
 use Rattle.jk_geom.specs.Rectangles.{IsWithin}
 use Rattle.jk_wave.specs.Analysis.{analysed}
 use Rattle.jk_wave.specs.Bands.{numbered_area}
@@ -56,6 +58,11 @@ pub record HasMade (s : ComponentFrame) (d e : ℕ) (f : ℕ → ℕ → ℕ →
       ≡ raster (rows_between (band_at s (s.coding.levels - n) o)
       (band_fallen s d (s.coding.levels - n) o) (band_fallen s e (s.coding.levels - n) o))
       (f (3 * (s.coding.levels - (n + 1)) + (o + 1)))
+
+-- how many bits the greatest magnitude of these rows has in sub-band b
+abbrev pub made_need : ComponentFrame → (d e : ℕ) → (ℕ → ℕ → ℕ → ℤ) → ℕ → ℕ
+made_need s d e f b = let r = band_resolution b in let i = band_index b in
+    bit_length (greatest (raster (rows_between (band_at s r i) (band_fallen s d r i) (band_fallen s e r i)) (f b)))
 
 -- each coefficient has 23 bit-planes at most
 abbrev pub AreFew : ComponentFrame → (ℕ → ℕ → ℕ → ℤ) → Type 0

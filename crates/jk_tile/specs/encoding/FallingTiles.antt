@@ -1,4 +1,4 @@
--- A tile of an image whose rows of samples come in stripes, one below the other.
+-- A tile of an image whose rows of samples come one below the other.
 use Rattle.std.specs.Prelude.{◌≡◌, ℕ, ◌+◌, ◌<◌, ◌≤◌, Bool, length, slice_index_or, ℤ}
 use Rattle.jk_math.specs.Picture.{Picture}
 use Rattle.jk_geom.specs.Rectangles.{IsWithin}
@@ -29,19 +29,21 @@ pub record HasTileSamples (s : ComponentFrame) (f : ℕ → ℕ → ℕ → ℤ)
   pub each : (c : ℕ) (other : FallingComponent) → c < components_in t
       → HasSamples s (f c) (slice_index_or t.components.items c other)
 
--- ---- a stripe of the image
+-- ---- rows of the image
 
--- It has the rows of the tile from row y on.
-pub record IsStripeOf (s : ComponentFrame) (y : ℕ) (v : Picture) : Type 0 where
+-- An image has rows y up to e of the tile.
+pub record HasRowsFor (s : ComponentFrame) (y e : ℕ) (v : Picture) : Type 0 where
   pub left : v.x0 ≤ s.rect.x0
   pub right : s.rect.x1 ≤ v.x0 + v.width
-  pub next : v.y0 ≡ y
-  pub lower : v.y0 + v.height ≤ s.rect.y1
+  pub upper : v.y0 ≤ y
+  pub order : y ≤ e
+  pub lower : e ≤ v.y0 + v.height
+  pub inside : e ≤ s.rect.y1
 
--- Its values, behind the level shift and the component transform, are those of f on the tile.
-abbrev pub GivesTile : ComponentFrame → (colours : Bool) → Picture → (ℕ → ℕ → ℕ → ℤ) → Type 0
-GivesTile s colours v f = (c x y : ℕ) → c < length v.planes → IsWithin (rows_between s.rect v.y0 (v.y0 + v.height)) x y
-    → tile_value v colours c x y ≡ f c x y
+-- Its values there, behind the level shift and the component transform, are those of f.
+abbrev pub GivesTile : ComponentFrame → (colours : Bool) → Picture → (y e : ℕ) → (ℕ → ℕ → ℕ → ℤ) → Type 0
+GivesTile s colours v y e f = (c x z : ℕ) → c < length v.planes → IsWithin (rows_between s.rect y e) x z
+    → tile_value v colours c x z ≡ f c x z
 
 -- samples of 16 bits behind the component transform, of so many components
 abbrev pub AreTileSixteen : ComponentFrame → (components : ℕ) → (ℕ → ℕ → ℕ → ℤ) → Type 0

@@ -10,7 +10,7 @@ use Rattle.jk_params.specs.Coding.{band_count}
 use Rattle.jk_params.specs.Profile.{siz_of}
 use Rattle.jk_math.specs.BitLength.{bit_length}
 use Rattle.jk_block.specs.BlockWritten.{greatest}
-use Rattle.jk_wave.specs.Analysis.{analysed, analysed_bands}
+use Rattle.jk_wave.specs.Analysis.{analysed}
 use Rattle.jk_wave.specs.Bands.{numbered_area}
 use Rattle.jk_tile.specs.encoding.Forward.{tile_value}
 
@@ -21,12 +21,6 @@ written_coefficient p q t c b = analysed (tile_area (siz_of p q) t) q.levels (ti
 -- those of the sub-band, row by row
 abbrev pub written_band : Picture → Parameters → (t c b : ℕ) → List ℤ
 written_band p q t c b = raster (numbered_area (tile_area (siz_of p q) t) q.levels b) (written_coefficient p q t c b)
-
--- all of tile t, by component and sub-band
-abbrev pub written_bands : Picture → Parameters → ℕ → List (List (List ℤ))
-written_bands p q t =
-    map (λ c. analysed_bands (tile_area (siz_of p q) t) q.levels (tile_value p q.colour c))
-    (range_with_len 0 (length p.planes))
 
 -- the greatest of the first n numbers
 abbrev pub most : (ℕ → ℕ) → ℕ → ℕ

@@ -26,8 +26,7 @@ use Rattle.jk_block.specs.Layers.{passes_upto, bytes_upto}
 use Rattle.jk_walk.specs.TilePackets.{Body, Packet, orientations, band_number, planes_of, bands_at}
 use Rattle.jk_tile.specs.TileBlocks.{grid_at}
 use Rattle.jk_tile.specs.encoding.Needs.{written_coefficient, exponents_for}
-use Rattle.jk_tile.specs.declared.bands.BandPart.{BandPart}
-use Rattle.jk_tile.specs.encoding.TileWritten.{WrittenBands, coefficient_of, coded_at}
+use Rattle.jk_tile.specs.encoding.TileWritten.{coded_at}
 
 -- ---- layers
 
@@ -79,12 +78,6 @@ abbrev pub band_tables_at : (layers : ℕ) → Rect → Coding → (ℕ → ℕ 
 band_tables_at layers a k f r n i =
     map (λ j. coded_table layers (planes_of k (band_number r i)) (coded_at a k f r n i j))
     (range_with_len 0 (block_number (grid_at a k r n i)))
-
--- that of one code-block
-abbrev pub block_table : WrittenBands → BandPart → ℕ → Table
-block_table s p j =
-    coded_table s.layers (planes_of s.coding (band_number p.resolution p.band))
-    (coded_at s.rect s.coding (coefficient_of s) p.resolution p.precinct p.band j)
 
 -- those of all sub-bands
 unfoldable pub precinct_tables : (layers : ℕ) → Rect → Coding → (ℕ → ℕ → ℕ → ℤ) → (r n : ℕ) → List (List Table)

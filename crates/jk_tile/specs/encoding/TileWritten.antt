@@ -9,10 +9,8 @@ use Rattle.jk_params.specs.Coding.{HasPlanes}
 use Rattle.jk_math.specs.BitLength.{bit_length}
 use Rattle.jk_block.specs.BlockWritten.{greatest, Coded, coded}
 use Rattle.jk_wave.specs.Bands.{numbered_area, coefficients_of}
-use Rattle.jk_geom.specs.Precincts.{precinct_number}
-use Rattle.jk_walk.specs.TilePackets.{orientations, band_number, planes_of}
+use Rattle.jk_walk.specs.TilePackets.{band_number, planes_of}
 use Rattle.jk_tile.specs.TileBlocks.{block_at_place, block_shape}
-use Rattle.jk_tile.specs.declared.bands.BandPart.{BandPart}
 
 -- the coefficients of code-block j of sub-band i in precinct n of resolution r, row by row, where f
 -- gives them by sub-band, column and row
@@ -51,9 +49,3 @@ pub record AreWrittenBands (s : WrittenBands) : Type 0 where
       → length (band_of s b) ≡ places_of (numbered_area s.rect s.coding.levels b)
   pub small : (b : ℕ) → b ≤ 3 * s.coding.levels → All (λ v. unsigned_abs v < 2 ^ 23) (band_of s b)
   pub room : (b : ℕ) → b ≤ 3 * s.coding.levels → bit_length (greatest (band_of s b)) ≤ planes_of s.coding b
-
--- a part of a sub-band of the component
-pub record IsWrittenPart (s : WrittenBands) (p : BandPart) : Type 0 where
-  pub resolution : p.resolution ≤ s.coding.levels
-  pub precinct : p.precinct < precinct_number s.rect s.coding p.resolution
-  pub band : p.band < length (orientations p.resolution)

@@ -148,35 +148,39 @@ fn coefficients_of(segment: &BlockSegment) -> usize {
     segment.shape.width.saturating_mul(segment.shape.height)
 }
 
-/// The end of the code-blocks of a job that begins with code-block `first`.
-fn job_end(segments: &[BlockSegment], first: usize) -> usize
+/// The end of the code-blocks of a job that begins with code-block `first`, of so many at most.
+fn job_end(segments: &[BlockSegment], first: usize, most: usize) -> usize
     requires { first < length segments.now }
     ensures more { first < result }
     ensures to { result ≤ length segments.now }
 {
     let mut coefficients = coefficients_of(&segments[first]);
     let mut end = first + 1;
-    while end < segments.len() && coefficients < JOB_COEFFICIENTS {
+    while end < segments.len() && coefficients < JOB_COEFFICIENTS && end - first < most {
         coefficients = coefficients.saturating_add(coefficients_of(&segments[end]));
         end += 1;
     }
     end
 }
 
-/// Jobs of the code-blocks of a codestream.
+/// Jobs of the code-blocks of a codestream: as many at least as there are workers, where there are as
+/// many code-blocks.
 fn jobs_of<'a>(
     alloc: Global,
     bytes: &'a [u8],
     segments: &'a [BlockSegment],
+    workers: usize,
 ) -> Result<Vec<SegmentJob<'a>>, Fault>
-    requires { All (IsBlockSegment (length bytes.now)) segments.now }
+    requires code_blocks { All (IsBlockSegment (length bytes.now)) segments.now }
+    requires some { 1 ≤ workers }
     ensures jobs { IfOk result (λ v. All (IsJobOf bytes.now) v.items) }
     ensures memory { IfErr result IsMemory }
 {
+    let most = segments.len() / workers;
     let mut jobs = Vec::new(alloc);
     let mut first = 0;
     while first < segments.len() {
-        let end = job_end(segments, first);
+        let end = job_end(segments, first, most);
         jobs.push(SegmentJob {
             bytes,
             segments: &segments[first..end],
@@ -216,7 +220,8 @@ fn by_start(alloc: Global, blocks: Vec<DecodedBlock>) -> Result<DecodedBlocks, F
 /// Decodes code-blocks of a codestream, side by side by workers. The fault of one of them is answered.
 ///
 /// `gate` is told of each code-block of at least 1,024 coefficients, when it begins and when it has
-/// ended; of smaller ones that stand one behind another it is told of as many at once.
+/// ended; of smaller ones that stand one behind another it is told of as many at once, or of fewer, so
+/// that each worker has some.
 pub fn decode_segments<R: Threads + Sync, G: Gate + Sync>(
     workers: &Workers<'_, R>,
     alloc: Global,
@@ -227,7 +232,7 @@ pub fn decode_segments<R: Threads + Sync, G: Gate + Sync>(
     requires segments { All (IsBlockSegment (length bytes.now)) segments.now }
     ensures { IfOk result (AreDecoded bytes.now) }
 {
-    let jobs = jobs_of(alloc, bytes, segments)?;
+    let jobs = jobs_of(alloc, bytes, segments, workers.count)?;
     let groups = map_jobs::<SegmentJob<'_>, R, G>(workers.rt, alloc, workers.count, gate, &jobs)?;
     by_start(alloc, all_blocks(alloc, groups)?)
 }
@@ -264,7 +269,7 @@ pub fn decode_segments_beside<R: Threads + Sync, G: Gate + Sync, H: FnMut() -> T
     ensures decoded { AreDecoded bytes.now result.0 }
     ensures here { H.step here.old result.1 here.new }
 {
-    let jobs = match jobs_of(alloc, bytes, segments) {
+    let jobs = match jobs_of(alloc, bytes, segments, workers.count) {
         Ok(jobs) => jobs,
         Err(_) => return (DecodedBlocks::none(alloc), here()),
     };

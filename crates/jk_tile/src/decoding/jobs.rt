@@ -1,18 +1,11 @@
-//! The code-blocks of all tiles of an image, decoded side by side by workers.
+//! The code-blocks of a tile, for workers who decode them before its samples are made.
 
-ghost use Rattle.std.specs.Prelude.{◌≡◌, ℕ, ◌<◌, ◌≤◌, ◌+◌, ◌*◌, ◌^◌, [], length, All, IfOk, IfErr, OnOk, slice_index_or};
-ghost use Rattle.std.specs.List.{AllByRecursion};
+ghost use Rattle.std.specs.Prelude.{◌≡◌, ◌<◌, ◌≤◌, ◌+◌, ◌*◌, ◌^◌, length, All, IfErr, OnOk};
 ghost use Rattle.jk_math.specs.Memory.{IsMemory};
-ghost use Rattle.jk_marks.specs.Siz.{tile_count};
 ghost use Rattle.jk_geom.specs.Blocks.{IsGrid};
 ghost use Rattle.jk_geom.specs.Precincts.{precinct_number};
-ghost use Rattle.jk_geom.specs.Rectangles.{resolution_area};
-ghost use Rattle.jk_params.specs.Headers.{AreHeaders, tile_in};
-ghost use Rattle.jk_walk.specs.WalkReading.{place_end};
 ghost use Rattle.jk_tile.specs.TileBlocks.{grid_at};
-ghost use Rattle.jk_tile.specs.TileMeaning.{shown_area};
-ghost use Rattle.jk_tile.specs.Filling.{IsPartOf};
-ghost use Rattle.jk_tile.specs.decoding.Decoded.{AreDecoded, AreSegments};
+ghost use Rattle.jk_tile.specs.decoding.Decoded.{AreSegments};
 ghost use Rattle.jk_tile.specs.decoding.Gathered.{AreNumbers, IsInside};
 ghost use Rattle.jk_tile.specs.decoding.Source.{IsSource, IsBandPart};
 
@@ -21,24 +14,22 @@ use crate::decoding::bodies::{BodyPlace, SomeBlocks, bodies_by_block};
 use crate::decoding::chains::{follow, packets_by_precinct};
 use crate::decoding::coded::CodedTile;
 use crate::decoding::component::CodedComponent;
-use crate::decoding::decoded::{BlockSegment, DecodedBlocks, decode_segments};
-use crate::workers::Workers;
+use crate::decoding::decoded::{BlockSegment, DecodedBlocks};
 use jk_geom::{BlockGrid, blocks, precinct_count, resolution, tile};
-use jk_jobs::Gate;
-use jk_math::{Fault, Rect};
-use jk_params::Codestream;
-use jk_walk::TilePackets;
+use jk_math::Fault;
 use jk_wave::Region;
 use std::alloc::Global;
-use std::marker::Sync;
-use std::thread::Threads;
 
 /// The least number of coefficients of a code-block that is decoded before the rows that it is in: to
 /// keep a smaller one takes as long as to decode it.
 const LEAST: usize = 64;
 
-/// Appends a code-block of a part of a sub-band that has these bodies, if it has any and isn't
-/// small.
+/// How many code-blocks are listed before small ones are left out: as many as there may be workers, so
+/// that each has one.
+const FEW: usize = 64;
+
+/// Appends a code-block of a part of a sub-band that has these bodies, if it has any. A small one is
+/// left out behind the first few of the list.
 fn add_block(
     alloc: Global,
     source: &CodedComponent<'_>,
@@ -62,7 +53,8 @@ fn add_block(
     let orientation = orientation(part.resolution, part.band);
     let planes = band_planes(coding, part.resolution, part.band);
     let shape = shape_at(&place, orientation, coding.style);
-    if bodies.is_empty() || shape.width * shape.height < LEAST {
+    let is_small = shape.width * shape.height < LEAST;
+    if bodies.is_empty() || is_small && FEW <= segments.len() {
         return Ok(());
     }
     segments.push(BlockSegment {
@@ -214,73 +206,35 @@ fn add_component_blocks(
     Ok(())
 }
 
-/// Appends the code-blocks of a tile, of the resolutions up to its reduction below the highest.
-fn add_tile_blocks(
+/// Appends the code-blocks of a tile, of the resolutions up to its reduction below the highest, but for
+/// small ones and those without a body.
+pub fn add_tile_blocks(
     alloc: Global,
     coded: &CodedTile<'_>,
-    area: &Rect,
     segments: &mut Vec<BlockSegment>,
 ) -> Result<(), Fault>
-    requires { IsPartOf area.now (shown_area coded.now.headers.siz coded.now.number coded.now.reduce) }
     ensures segments { AreSegments (length coded.now.bytes) segments.old.items
         → OnOk result (AreSegments (length coded.now.bytes) segments.new.items) }
     ensures memory { IfErr result IsMemory }
 {
     let headers = coded.headers;
-    let bytes = coded.bytes;
     let number = coded.number;
-    let packets = coded.packets;
     let reduce = coded.reduce;
     let rect = tile(headers.siz(), number as u32);
-    let codings = headers.codings(number).as_slice();
+    let area = resolution(&rect, reduce, 0);
     let none = DecodedBlocks::none(alloc);
+    let codings = headers.codings(number).as_slice();
     for c in 0..codings.len() {
         let coding = &codings[c];
         let region = Region {
             rect,
             levels: coding.levels,
             top: coding.levels - reduce,
-            area: *area,
+            area,
         };
-        let source = CodedComponent::new(bytes, region, coding, packets, c as u8, &none);
+        let packets = coded.packets;
+        let source = CodedComponent::new(coded.bytes, region, coding, packets, c as u8, &none);
         add_component_blocks(alloc, &source, segments)?;
     }
     Ok(())
-}
-
-/// The code-blocks of all tiles, of the resolutions up to `reduce` below the highest, decoded by workers
-/// side by side; small ones are left out. The fault of one of them is answered, and not the first.
-///
-/// `gate` is told of each code-block, when it begins and when it has ended.
-pub fn decode_blocks_with<R: Threads + Sync, G: Gate + Sync>(
-    workers: &Workers<'_, R>,
-    alloc: Global,
-    gate: &G,
-    headers: &Codestream,
-    bytes: &[u8],
-    packets: &[TilePackets],
-    reduce: u8,
-) -> Result<DecodedBlocks, Fault>
-    requires sound { AreHeaders (length bytes.now) headers.now }
-    requires few { reduce ≤ 10 }
-    requires count { length packets.now ≡ tile_count headers.now.siz }
-    requires packets { (t : ℕ) → t < tile_count headers.now.siz
-        → AllByRecursion (λ w. place_end w ≤ length bytes.now) (slice_index_or packets.now t []) }
-    requires levels { (t : ℕ) → t < tile_count headers.now.siz
-        → AllByRecursion (λ k. reduce ≤ k.levels) (tile_in headers.now.tiles t).codings }
-    ensures { IfOk result (AreDecoded bytes.now) }
-{
-    let mut segments = Vec::new(alloc);
-    for number in 0..packets.len() {
-        let area = resolution(&tile(headers.siz(), number as u32), reduce, 0);
-        let coded = CodedTile {
-            headers,
-            bytes,
-            number,
-            packets: &packets[number],
-            reduce,
-        };
-        add_tile_blocks(alloc, &coded, &area, &mut segments)?;
-    }
-    decode_segments(workers, alloc, gate, bytes, &segments)
 }

@@ -80,8 +80,12 @@ fn read_components(
     Ok(values)
 }
 
-/// What [`decode_part`] gives, where a code-block among those that were decoded before, from the
-/// same codestream, isn't decoded again.
+/// The samples of a part of a tile at a reduction, component by component, each row by row, from
+/// the tile's packets. The part is a rectangle of the reduced image. A code-block among those that were
+/// decoded before, from the same codestream, isn't decoded again.
+///
+/// The faults of [`decode_tile`], of those code-blocks alone that have a coefficient on which a
+/// sample of the part depends. Others are not decoded.
 #[tactic(auto, unfolding(crate::specs::decoding::TileReading::part_planes_at))]
 pub fn decode_part_of(
     alloc: Global,
@@ -104,23 +108,20 @@ pub fn decode_part_of(
     Ok(values)
 }
 
-/// The samples of a part of a tile at a reduction, component by component, each row by row, from
-/// the tile's packets. The part is a rectangle of the reduced image.
-///
-/// The faults of [`decode_tile`], of those code-blocks alone that have a coefficient on which a
-/// sample of the part depends. Others are not decoded.
-pub fn decode_part(
+/// What [`decode_tile`] gives, where a code-block among those that were decoded before, from the same
+/// codestream, isn't decoded again.
+pub fn decode_tile_of(
     alloc: Global,
     coded: &CodedTile<'_>,
-    area: &Rect,
+    decoded: &DecodedBlocks,
 ) -> Result<Vec<Vec<i32>>, Fault>
-    requires inside { IsPartOf area.now (shown_area coded.now.headers.siz coded.now.number coded.now.reduce) }
+    requires decoded { AreDecoded coded.now.bytes decoded.now }
     ensures exact { Answers (λ v. lists_of v.items) result
-        (part_planes_at coded.now.bytes coded.now.headers coded.now.number coded.now.reduce area.now
-        coded.now.packets) }
+        (tile_planes_at coded.now.bytes coded.now.headers coded.now.number coded.now.reduce coded.now.packets) }
 {
-    let none = DecodedBlocks::none(alloc);
-    decode_part_of(alloc, coded, area, &none)
+    let rect = tile(coded.headers.siz(), coded.number as u32);
+    let area = resolution(&rect, coded.reduce, 0);
+    decode_part_of(alloc, coded, &area, decoded)
 }
 
 /// The samples of a tile at a reduction, component by component, each row by row, from its packets.
@@ -133,7 +134,5 @@ pub fn decode_tile(alloc: Global, coded: &CodedTile<'_>) -> Result<Vec<Vec<i32>>
     ensures exact { Answers (λ v. lists_of v.items) result
         (tile_planes_at coded.now.bytes coded.now.headers coded.now.number coded.now.reduce coded.now.packets) }
 {
-    let rect = tile(coded.headers.siz(), coded.number as u32);
-    let area = resolution(&rect, coded.reduce, 0);
-    decode_part(alloc, coded, &area)
+    decode_tile_of(alloc, coded, &DecodedBlocks::none(alloc))
 }

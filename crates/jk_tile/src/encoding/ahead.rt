@@ -17,8 +17,8 @@ use std::alloc::Global;
 use std::marker::Sync;
 use std::thread::Threads;
 
-/// How many coefficients the code-blocks of a job have together, as far as they are small: as many as
-/// the largest code-block has.
+/// How many coefficients the code-blocks of a job have together at most, as far as they are small: as
+/// many as the largest code-block has.
 const COEFFICIENTS: usize = 4096;
 
 /// Code-blocks that are to be coded and cut into so many layers, and how many rows of them each
@@ -94,9 +94,19 @@ fn code_group(alloc: Global, layers: u16, blocks: &[Block]) -> Result<Vec<Layere
     Ok(coded)
 }
 
+/// How many coefficients the code-blocks of a group may have together: no more than the share of each
+/// of so many workers, so that few code-blocks are jobs for several.
+fn most_of_group(blocks: &[Block], workers: usize) -> usize {
+    let mut listed: usize = 0;
+    for block in blocks {
+        listed = listed.saturating_add(block.values.len());
+    }
+    COEFFICIENTS.min(listed / workers.max(1))
+}
+
 /// How many code-blocks the group has that begins with code-block `from`: one, and those behind it as
-/// long as together they have no more coefficients than a group may.
-fn group_size(blocks: &[Block], from: usize) -> usize
+/// long as together they have no more than `most` coefficients.
+fn group_size(blocks: &[Block], from: usize, most: usize) -> usize
     requires { from < length blocks.now }
     ensures some { 0 < result }
     ensures inside { from + result ≤ length blocks.now }
@@ -105,7 +115,7 @@ fn group_size(blocks: &[Block], from: usize) -> usize
     let mut held = blocks[from].values.len();
     while count < blocks.len() - from {
         held = held.saturating_add(blocks[from + count].values.len());
-        if held > COEFFICIENTS {
+        if held > most {
             return count;
         }
         count += 1;
@@ -121,16 +131,22 @@ fn part(blocks: &[Block], from: usize, count: usize) -> &[Block]
     &blocks[from..from + count]
 }
 
-/// The code-blocks in groups.
-fn groups<'a>(alloc: Global, layers: u16, blocks: &'a [Block]) -> Result<Vec<GroupJob<'a>>, Fault>
+/// The code-blocks in groups for so many workers.
+fn groups<'a>(
+    alloc: Global,
+    layers: u16,
+    blocks: &'a [Block],
+    workers: usize,
+) -> Result<Vec<GroupJob<'a>>, Fault>
     requires { All IsCodable blocks.now }
     ensures groups { IfOk result (λ v. AreGroupsOf layers blocks.now v.items) }
     ensures memory { IfErr result IsMemory }
 {
+    let most = most_of_group(blocks, workers);
     let mut jobs = Vec::new(alloc);
     let mut from = 0;
     while from < blocks.len() {
-        let count = group_size(blocks, from);
+        let count = group_size(blocks, from, most);
         jobs.push(GroupJob {
             layers,
             blocks: part(blocks, from, count),
@@ -169,7 +185,7 @@ fn coded_lists<R: Threads + Sync, G: Gate + Sync>(
     requires { All IsCodable blocks.now }
     ensures { IfOk result (λ v. v.items ≡ reverse (map (layered_block layers) blocks.now)) }
 {
-    let jobs = groups(alloc, layers, blocks)?;
+    let jobs = groups(alloc, layers, blocks, workers.count)?;
     let lists = map_jobs::<GroupJob<'_>, R, G>(workers.rt, alloc, workers.count, gate, &jobs)?;
     joined(alloc, blocks.len(), lists)
 }
@@ -239,7 +255,7 @@ fn coded_beside<R: Threads + Sync, G: Gate + Sync, H: FnMut() -> T, T>(
     ensures coded { IfOk result.0 (λ v. v.items ≡ reverse (map (layered_block layers) blocks.now)) }
     ensures here { H.step here.old result.1 here.new }
 {
-    let jobs = match groups(alloc, layers, blocks) {
+    let jobs = match groups(alloc, layers, blocks, workers.count) {
         Ok(jobs) => jobs,
         Err(fault) => return (Err(fault), here()),
     };

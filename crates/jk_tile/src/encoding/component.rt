@@ -1,6 +1,7 @@
 //! A component of a tile that is written row by row.
 
 ghost use Rattle.std.specs.Prelude.{◌≡◌};
+ghost use Rattle.jk_wave.specs.climbing.Held.{rows_between};
 ghost use Rattle.jk_tile.specs.encoding.Strips.{IsFrame};
 
 use jk_marks::Coding;
@@ -46,6 +47,18 @@ impl<'a> WrittenComponent<'a> {
         ensures frame { IsFrame self.now }
     {
         self.rect
+    }
+
+    /// Rows `from` up to `end` of the tile.
+    pub(crate) fn rows(&self, from: u32, end: u32) -> Rect
+        ensures value { result ≡ rows_between self.now.rect from end }
+        ensures frame { IsFrame self.now }
+    {
+        Rect {
+            y0: from,
+            y1: end,
+            ..self.rect
+        }
     }
 
     /// How the component is coded.

@@ -1,12 +1,17 @@
-//! Parts of rectangles, copied or compared row by row.
+//! Parts of rectangles, copied or compared row by row, and code-blocks that are cut out of them.
 
-ghost use Rattle.std.specs.Prelude.{◌≡◌, ◌+◌, ◌<◌, ◌≤◌, IsTrue, IfOk, IfErr, length, take, drop};
+ghost use Rattle.std.specs.Prelude.{◌≡◌, ◌+◌, ◌<◌, ◌≤◌, IsTrue, IfOk, IfErr, ◌^◌, All, unsigned_abs, length, take, drop};
 ghost use Rattle.jk_math.specs.Memory.{IsMemory};
 ghost use Rattle.jk_math.specs.Raster.{rows_of, places_of, plane_at, raster};
 ghost use Rattle.jk_geom.specs.Rectangles.{IsArea};
+ghost use Rattle.jk_block.specs.CodedBlocks.{shape_of};
 ghost use Rattle.jk_tile.specs.Filling.{IsPartOf, row_of};
+ghost use Rattle.jk_tile.specs.TileBlocks.{shape_of_area, IsBlockShape};
+ghost use Rattle.jk_tile.specs.encoding.Ahead.{IsCodable};
 
-use jk_math::{Fault, Rect};
+use crate::bands::shape_at;
+use jk_block::Block;
+use jk_math::{Fault, Orientation, Rect, Style};
 use std::alloc::Global;
 
 /// Some of the numbers of a list.
@@ -51,6 +56,36 @@ pub(crate) fn cut_out(
         list.extend_from_slice(row_of(area, values, part, row))?;
     }
     Ok(list)
+}
+
+/// Cuts the code-block at a place out of a rectangle of a sub-band, whose coefficients are these, row by
+/// row.
+pub(crate) fn cut_block(
+    alloc: Global,
+    area: &Rect,
+    values: &[i32],
+    place: &Rect,
+    orientation: Orientation,
+    style: Style,
+) -> Result<Block, Fault>
+    requires area { IsArea area.now }
+    requires part { IsPartOf place.now area.now }
+    requires whole { length values.now ≡ places_of area.now }
+    requires fits { IsBlockShape (shape_of_area place.now orientation style) }
+    requires small { All (λ v. unsigned_abs v < 2 ^ 23) values.now }
+    ensures block { IfOk result IsCodable }
+    ensures shape { IfOk result (λ b. shape_of b ≡ shape_of_area place.now orientation style) }
+    ensures values { IfOk result (λ b. b.values.items ≡ raster place.now (plane_at area.now values.now)) }
+    ensures memory { IfErr result IsMemory }
+{
+    let shape = shape_at(place, orientation, style);
+    Ok(Block {
+        width: shape.width,
+        height: shape.height,
+        orientation: shape.orientation,
+        style: shape.style,
+        values: cut_out(alloc, area, values, place)?,
+    })
 }
 
 /// Whether two lists of numbers are the same.

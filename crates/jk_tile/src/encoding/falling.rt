@@ -76,8 +76,9 @@ fn first_bands(alloc: Global, source: &WrittenComponent<'_>) -> Result<Vec<BandS
 {
     level_fallen();
     levels_fallen();
-    let mut bands = Vec::new(alloc);
-    for b in 0..3 * source.coding().levels + 1 {
+    let count = 3 * source.coding().levels + 1;
+    let mut bands = Vec::with_capacity(alloc, count as usize)?;
+    for b in 0..count {
         let (r, i) = band_name(b);
         bands.push(BandStrips::new(alloc, source, r, i)?)?;
     }

@@ -1,13 +1,11 @@
-//! A tile of an image whose rows come in stripes, one below the other: all its components.
+//! A tile of an image whose rows come one below the other: all its components.
 
 ghost use Rattle.std.specs.Prelude.{◌≡◌, ℕ, ℤ, ◌+◌, ◌<◌, ◌≤◌, true, length, IfOk, IfErr, OnOk};
 ghost use Rattle.jk_math.specs.Memory.{IsMemory};
 ghost use Rattle.jk_math.specs.Picture.{IsPicture};
-ghost use Rattle.jk_wave.specs.climbing.Held.{rows_between};
-ghost use Rattle.jk_tile.specs.encoding.Strips.{IsFrame};
 ghost use Rattle.jk_tile.specs.encoding.FallenTiles.{fallen_in, IsFallenTile, IsCodedTile};
 ghost use Rattle.jk_tile.specs.encoding.FallingTiles.{components_in, IsStandingTile, HasTileSamples};
-ghost use Rattle.jk_tile.specs.encoding.FallingTiles.{IsStripeOf, AreTileSixteen, GivesTile};
+ghost use Rattle.jk_tile.specs.encoding.FallingTiles.{HasRowsFor, AreTileSixteen, GivesTile};
 ghost use Rattle.jk_tile.specs.encoding.Ahead.{AreUncoded, IsCodedAhead};
 
 use crate::encoding::ahead::{CodedBlocks, UncodedBlocks};
@@ -17,29 +15,28 @@ use crate::encoding::fallen_tile::FallenTile;
 use crate::encoding::falling::FallingComponent;
 use crate::encoding::strips::When;
 use crate::encoding::values::put_values;
-use jk_math::{Fault, Image, Rect};
+use jk_math::{Fault, Image};
 use std::alloc::Global;
 
-/// A tile of an image between two stripes of its rows.
+/// Rows of an image: those that are next, up to row `end` of the reference grid, with or without the
+/// component transform.
+#[derive(Clone, Copy)]
+pub struct GivenRows<'a> {
+    /// The image, which may have more rows.
+    pub image: &'a Image,
+    /// Whether the component transform is asked for.
+    pub colours: bool,
+    /// The row behind them.
+    pub end: u32,
+}
+
+/// A tile of an image between two steps of its rows.
 #[derive(Drop)]
 pub struct FallingTile {
     /// The row of samples that is next.
     pub(crate) y: u32,
     /// Its components, which are coded alike.
     pub(crate) components: Vec<FallingComponent>,
-}
-
-/// What a stripe of rows of the image has of the tile.
-fn part_of(source: &WrittenComponent<'_>, stripe: &Image) -> Rect
-    requires { IsPicture stripe.now }
-    ensures value { result ≡ rows_between source.now.rect stripe.now.y0 (stripe.now.y0 + stripe.now.height) }
-    ensures frame { IsFrame source.now }
-{
-    Rect {
-        y0: stripe.y0(),
-        y1: stripe.y0() + stripe.height(),
-        ..source.rect()
-    }
 }
 
 impl FallingTile {
@@ -56,7 +53,7 @@ impl FallingTile {
         ensures first { IfOk result (λ t. t.y ≡ source.now.rect.y0) }
         ensures memory { IfErr result IsMemory }
     {
-        let mut list = Vec::new(alloc);
+        let mut list = Vec::with_capacity(alloc, components)?;
         for _ in 0..components {
             list.push(FallingComponent::new(alloc, source)?)?;
         }
@@ -66,38 +63,39 @@ impl FallingTile {
         })
     }
 
-    /// Takes what a stripe of rows of the image has of the tile, and codes the code-blocks of which no
-    /// row is missing any more, or lets them wait. `values` is room for a component of the stripe.
+    /// Takes what the next rows of the image have of the tile, and codes the code-blocks of which no
+    /// row is missing any more, or lets them wait. `values` is room for a component of these rows.
     /// Memory is the only fault; the tile isn't to be used behind it.
     pub fn give(
         &mut self,
         alloc: Global,
         source: &WrittenComponent<'_>,
-        colours: bool,
-        stripe: &Image,
+        rows: &GivenRows<'_>,
         values: &mut Vec<i32>,
         when: When,
     ) -> Result<(), Fault>
         requires standing { IsStandingTile source.now self.old }
-        requires picture { IsPicture stripe.now }
-        requires count { components_in self.old ≡ length stripe.now.planes }
-        requires colours { colours ≡ true → 3 ≤ length stripe.now.planes }
-        requires stripe { IsStripeOf source.now self.old.y stripe.now }
-        requires given { (f : ℕ → ℕ → ℕ → ℤ) × AreTileSixteen source.now (length stripe.now.planes) f
-            × HasTileSamples source.now f self.old × GivesTile source.now colours stripe.now f }
+        requires picture { IsPicture rows.now.image.now }
+        requires count { components_in self.old ≡ length rows.now.image.now.planes }
+        requires colours { rows.now.colours ≡ true → 3 ≤ length rows.now.image.now.planes }
+        requires rows { HasRowsFor source.now self.old.y rows.now.end rows.now.image.now }
+        requires given { (f : ℕ → ℕ → ℕ → ℤ) × AreTileSixteen source.now (length rows.now.image.now.planes) f
+            × HasTileSamples source.now f self.old
+            × GivesTile source.now rows.now.colours rows.now.image.now self.old.y rows.now.end f }
         ensures standing { OnOk result (IsStandingTile source.now self.new) }
         ensures count { OnOk result (components_in self.new ≡ components_in self.old) }
         ensures rows { OnOk result ((f : ℕ → ℕ → ℕ → ℤ) → HasTileSamples source.now f self.old
-            → GivesTile source.now colours stripe.now f → HasTileSamples source.now f self.new) }
-        ensures next { OnOk result (self.new.y ≡ stripe.now.y0 + stripe.now.height) }
+            → GivesTile source.now rows.now.colours rows.now.image.now self.old.y rows.now.end f
+            → HasTileSamples source.now f self.new) }
+        ensures next { OnOk result (self.new.y ≡ rows.now.end) }
         ensures memory { IfErr result IsMemory }
     {
-        let part = part_of(source, stripe);
+        let part = source.rows(self.y, rows.end);
         for c in 0..self.components.len() {
-            put_values(alloc, stripe, colours, c, &part, values)?;
-            self.components[c].give(alloc, source, part.y1, values, when)?;
+            put_values(alloc, rows.image, rows.colours, c, &part, values)?;
+            self.components[c].give(alloc, source, rows.end, values, when)?;
         }
-        self.y = part.y1;
+        self.y = rows.end;
         Ok(())
     }
 
@@ -156,7 +154,10 @@ impl FallingTile {
             → IsCodedTile source.now f t) }
         ensures memory { IfErr result IsMemory }
     {
-        let mut components: Vec<FallenComponent> = Vec::new(alloc);
+        let mut components: Vec<FallenComponent> = Vec::with_capacity(
+            alloc,
+            self.components.len(),
+        )?;
         for component in self.components {
             components.push(component.finish(alloc, source)?)?;
         }

@@ -15,9 +15,8 @@ ghost use Rattle.jk_tile.specs.encoding.Ahead.{IsCodable, layered_block, AreUnco
 use crate::bands::{orientation, shape_at};
 use crate::encoding::ahead::{CodedBlocks, UncodedBlocks, code_block};
 use crate::encoding::component::WrittenComponent;
-use crate::encoding::cutting::is_cut;
+use crate::encoding::cutting::{cut_block, is_cut};
 use crate::encoding::tables::LayeredBlock;
-use crate::encoding::writing::cut_block;
 use jk_block::Block;
 use jk_geom::{
     BlockGrid, blocks, is_empty, precinct_count, precinct_part_size, precinct_size, resolution,

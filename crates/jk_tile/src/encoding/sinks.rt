@@ -5,8 +5,8 @@ ghost use Rattle.std.specs.Prelude.{◌≡◌, ℕ, List, ◌+◌, ◌<◌};
 use jk_math::{Fault, write_out};
 use std::io::Write;
 
-/// What takes a text, piece by piece.
-pub(crate) trait TextSink {
+/// What takes a text, piece by piece: a list, a count of its bytes, or a writer.
+pub trait TextSink {
     ghost use Rattle.std.specs.Prelude.{ℕ, List, [], ◌++◌};
     ghost use Rattle.jk_math.specs.declared.fault.Fault.{Fault};
     ghost use Rattle.jk_tile.specs.encoding.Sinks.{IsPassed};
@@ -20,6 +20,10 @@ pub(crate) trait TextSink {
     /// Takes the next piece of the text, or a beginning of it where it tells a fault.
     fn take(&mut self, piece: &[u8]) -> Result<(), Fault>
         ensures { (part : List ℕ) × took self.old part self.new × IsPassed tells piece.now part result };
+
+    /// Whether what was taken is held in memory, so that the packets of a tile may be too while they are
+    /// passed on.
+    fn holds(&self) -> bool;
 
     // It may take nothing, and one text behind another.
     ghost none: { (s : Self) → took s [] s };
@@ -42,6 +46,10 @@ impl TextSink for Vec<u8> {
     fn take(&mut self, piece: &[u8]) -> Result<(), Fault> {
         self.extend_from_slice(piece)?;
         Ok(())
+    }
+
+    fn holds(&self) -> bool {
+        true
     }
 }
 
@@ -66,12 +74,17 @@ impl TextSink for TextSize {
         self.bytes = self.bytes.saturating_add(piece.len() as u64);
         Ok(())
     }
+
+    fn holds(&self) -> bool {
+        false
+    }
 }
 
 /// A writer that gets a text.
 #[derive(Drop)]
-pub(crate) struct TextWriter<'a, W> {
-    pub(crate) writer: &'a mut W,
+pub struct TextWriter<'a, W> {
+    /// Which one.
+    pub writer: &'a mut W,
 }
 
 impl<'a, W: Write> TextSink for TextWriter<'a, W> {
@@ -92,5 +105,9 @@ impl<'a, W: Write> TextSink for TextWriter<'a, W> {
         } else {
             Err(Fault::Shelf)
         }
+    }
+
+    fn holds(&self) -> bool {
+        false
     }
 }

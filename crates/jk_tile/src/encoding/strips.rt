@@ -3,7 +3,7 @@
 //! the list begins anew. Or the whole row of code-blocks waits, until workers have coded what it
 //! has. What is coded is kept by precinct.
 
-ghost use Rattle.std.specs.Prelude.{◌≡◌, ℕ, ℤ, ◌+◌, ◌-◌, ◌*◌, ◌%◌, ◌^◌, ◌<◌, ◌≤◌, ◌||◌, ◌==◌, nat_le, [], length, take, drop};
+ghost use Rattle.std.specs.Prelude.{◌≡◌, ℕ, ℤ, ◌+◌, ◌-◌, ◌*◌, ◌/◌, ◌%◌, ◌^◌, ◌<◌, ◌≤◌, ◌||◌, ◌==◌, nat_le, [], length, take, drop};
 ghost use Rattle.std.specs.Prelude.{All, unsigned_abs, IfOk, IfErr, OnOk};
 ghost use Rattle.jk_math.specs.Memory.{IsMemory};
 ghost use Rattle.jk_math.specs.Raster.{columns_of, raster};
@@ -44,6 +44,19 @@ fn is_start(area: &Rect, y: u32, exponent: u8) -> bool
     ensures { result ≡ (nat_le area.now.y1 y || (y % 2 ^ exponent == 0)) }
 {
     area.y1 <= y || y % (1u32 << exponent) == 0
+}
+
+/// Where the row of code-blocks of row `y` ends, which is `2^exponent` high, or row `to` above that.
+fn row_end(y: u32, exponent: u8, to: u32) -> u32
+    requires more { y < to }
+    requires few { to < 2 ^ 31 }
+    requires exponent { exponent ≤ 10 }
+    ensures more { y < result }
+    ensures to { result ≤ to }
+    ensures within { result ≤ (y / 2 ^ exponent + 1) * 2 ^ exponent }
+{
+    let height = 1u32 << exponent;
+    (y - y % height + height).min(to)
 }
 
 /// Makes a list that is done with room for the numbers that come, where there are none yet, and else for
@@ -109,6 +122,8 @@ impl BandStrips {
         let coding = source.coding();
         let area = band(&rect, coding.levels, r, orientation(r, i));
         let (across, down) = precinct_count(&rect, coding, r);
+        let height = (area.y1 - area.y0).min(1 << block_exponent(coding, r));
+        let strip = Vec::with_capacity(alloc, (area.x1 - area.x0) as usize * height as usize)?;
         let mut blocks = Vec::new(alloc);
         add_lists(alloc, (across * down) as usize, &mut blocks)?;
         Ok(BandStrips {
@@ -120,7 +135,7 @@ impl BandStrips {
                 y1: area.y0,
                 ..area
             },
-            strip: Vec::new(alloc),
+            strip,
             room: Vec::new(alloc),
             blocks,
             bits: 0,
@@ -329,30 +344,34 @@ impl BandStrips {
         Ok(())
     }
 
-    /// Puts in the next row.
-    fn put_row(
+    /// Puts in the rows up to row `end`, which all stand in one row of code-blocks.
+    fn put_rows(
         &mut self,
         alloc: Global,
         source: &WrittenComponent<'_>,
-        row: &[i32],
+        end: u32,
+        rows: &[i32],
         when: When,
     ) -> Result<(), Fault>
         requires holds { IsBetweenRows source.now self.old }
-        requires inside { self.old.area.y1 < (own_band source.now self.old).y1 }
-        requires long { length row.now ≡ columns_of self.old.area }
-        requires small { All (λ v. unsigned_abs v < 2 ^ 23) row.now }
+        requires some { self.old.area.y1 < end }
+        requires inside { end ≤ (own_band source.now self.old).y1 }
+        requires within { end ≤ (self.old.area.y1 / 2 ^ block_exponent source.now.coding self.old.resolution + 1)
+            * 2 ^ block_exponent source.now.coding self.old.resolution }
+        requires long { length rows.now ≡ (end - self.old.area.y1) * columns_of self.old.area }
+        requires small { All (λ v. unsigned_abs v < 2 ^ 23) rows.now }
         ensures name { OnOk result ((self.new.resolution ≡ self.old.resolution) × (self.new.band ≡ self.old.band)
-            × (self.new.area.y1 ≡ self.old.area.y1 + 1)) }
+            × (self.new.area.y1 ≡ end)) }
         ensures holds { OnOk result (IsBetweenRows source.now self.new) }
         ensures rows { OnOk result ((f : ℕ → ℕ → ℕ → ℤ) → HasRowsOf source.now f self.old
-            → row.now ≡ raster (rows_between (own_band source.now self.old) self.old.area.y1 (self.old.area.y1 + 1))
+            → rows.now ≡ raster (rows_between (own_band source.now self.old) self.old.area.y1 end)
             (f (band_number self.old.resolution self.old.band))
             → HasRowsOf source.now f self.new) }
         ensures memory { IfErr result IsMemory }
     {
-        self.strip.extend_from_slice(row)?;
-        self.bits = self.bits.max(top_bits(row) as u8);
-        self.area.y1 += 1;
+        self.strip.extend_from_slice(rows)?;
+        self.bits = self.bits.max(top_bits(rows) as u8);
+        self.area.y1 = end;
         self.complete(alloc, source, when)
     }
 
@@ -382,10 +401,17 @@ impl BandStrips {
         ensures memory { IfErr result IsMemory }
     {
         let width = (self.area.x1 - self.area.x0) as usize;
+        let exponent = block_exponent(source.coding(), self.resolution);
         let from = self.area.y1;
-        for y in from..to {
-            let row = cut(rows, (y - from) as usize * width, width);
-            self.put_row(alloc, source, row, when)?;
+        while self.area.y1 < to {
+            let y = self.area.y1;
+            let end = row_end(y, exponent, to);
+            let part = cut(
+                rows,
+                (y - from) as usize * width,
+                (end - y) as usize * width,
+            );
+            self.put_rows(alloc, source, end, part, when)?;
         }
         Ok(())
     }

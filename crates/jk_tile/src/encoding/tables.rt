@@ -4,7 +4,7 @@ ghost use Rattle.std.specs.Prelude.{◌≡◌, ◌+◌, ◌<◌, ◌≤◌, leng
 ghost use Rattle.jk_math.specs.Memory.{IsMemory};
 ghost use Rattle.jk_block.specs.CodedBlocks.{contents};
 ghost use Rattle.jk_block.specs.Layers.{passes_upto, without_ff, bytes_upto};
-ghost use Rattle.jk_tile.specs.encoding.PacketsWritten.{IsCodedBlock, parts_for, coded_table};
+ghost use Rattle.jk_tile.specs.encoding.PacketsWritten.{IsCodedBlock, parts_for};
 ghost use Rattle.jk_tile.specs.encoding.Layered.{layered, table_with};
 
 use jk_block::CodedBlock;
@@ -133,21 +133,4 @@ impl LayeredBlock {
         let zero_planes = (planes - self.planes) as u8;
         BlockTable::new(zero_planes, 0, self.parts, self.bytes)
     }
-}
-
-/// What is written of a coded block in a sub-band of so many bit-planes.
-pub(crate) fn table(
-    alloc: Global,
-    coded: CodedBlock,
-    planes: u32,
-    layers: u16,
-) -> Result<BlockTable, Fault>
-    requires coded { IsCodedBlock coded }
-    requires room { coded.planes ≤ planes }
-    requires planes { planes ≤ 23 }
-    ensures table { IfOk result (λ t. t ≡ coded_table layers planes (contents coded)) }
-    ensures memory { IfErr result IsMemory }
-{
-    let block = LayeredBlock::new(alloc, coded, layers)?;
-    Ok(block.table(planes))
 }

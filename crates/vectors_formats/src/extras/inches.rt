@@ -2,8 +2,9 @@ use jk_extras::{Ratio, per_inch};
 use vectors::{equal, equal_at};
 
 /// Samples on so many inches, and the numerator, the denominator and the exponent of samples per
-/// metre: by `50 n / 127 d` times 10^2, `5 n / 127 d` times 10^3, or `n / 254 d` times 10^4.
-static INCHES: [(u32, u32, Option<(u16, u16, i8)>); 17] = [
+/// metre: 5000 / 127 times as many, by the first exponent of 2 to 16, 0, 1, and -1 down to -12 with
+/// numbers of 16 bits.
+static INCHES: [(u32, u32, Option<(u16, u16, i8)>); 24] = [
     (300, 1, Some((15_000, 127, 2))),
     (1, 1, Some((50, 127, 2))),
     (1310, 1, Some((65_500, 127, 2))),
@@ -19,6 +20,13 @@ static INCHES: [(u32, u32, Option<(u16, u16, i8)>); 17] = [
     (254, 100, Some((1, 1, 2))),
     (u32::MAX, u32::MAX, Some((50, 127, 2))),
     (1, u32::MAX, None),
+    (1, 1000, Some((1, 2540, 2))),
+    (1, 1_000_000_000, Some((1, 25_400, -3))),
+    (127, 1_000_000_000, Some((1, 20_000, -1))),
+    (1, 4_000_000_000, Some((1, 10_160, -4))),
+    (4_000_000_000, 1, Some((20_000, 127, 9))),
+    (10_000, 1, Some((50_000, 127, 3))),
+    (300_123, 1000, None),
     (0, 1, None),
     (300, 0, None),
 ];

@@ -162,22 +162,19 @@ fn workers_out_of_range(rt: HostRuntime) -> Result<(), Fail> {
     Ok(())
 }
 
-/// The stripe of each worker is told once when it begins and once when it has ended, and the first
-/// ends only because the second has begun; what they make is the image.
+/// Each worker has a job of code-blocks, small as they are, which is told once when it begins and once when
+/// it has ended; the first ends only because the second has begun, and what they make is the image.
 #[test]
-fn two_stripes_at_a_time(rt: HostRuntime) -> Result<(), Fail> {
+fn two_jobs_at_a_time(rt: HostRuntime) -> Result<(), Fail> {
     let alloc = rt.alloc();
-    let rows: [(&str, &[i32]); 2] = [(COLOUR, &COLOURS), (TILES, &WHOLE)];
-    for (text, samples) in rows {
-        let bytes = bytes_of(alloc, &[text])?;
-        for workers in [2, 3] {
-            let held = Held {
-                meeting: Meeting::new(alloc, workers)?,
-            };
-            let image = decoded(&rt, alloc, workers, &held, &bytes, 0)?;
-            assert!(rt; has(&image, samples), "{workers} {text}");
-            assert!(rt; held.meeting.was_met(1), "{workers} {text}");
-        }
+    let bytes = bytes_of(alloc, &[COLOUR])?;
+    for workers in [2, 3] {
+        let held = Held {
+            meeting: Meeting::new(alloc, workers)?,
+        };
+        let image = decoded(&rt, alloc, workers, &held, &bytes, 0)?;
+        assert!(rt; has(&image, &COLOURS), "{workers}");
+        assert!(rt; held.meeting.was_met(1), "{workers}");
     }
     Ok(())
 }

@@ -47,7 +47,7 @@ all_tables-requires-clause-room g c t other lt =
 pub returns-in_err-tables-clause-part : goal.returns-in_err-tables-clause-part
 returns-in_err-tables-clause-part g c =
     let e = err_from_is_err_and c.from_residual.result c.from_residual.ensures.1 in
-    rw (e.1, e.2) (λ p is same coded profile. left_none p c.args.coming.now.parameters.now (g.W.Write.contents c.args.writer.now) c.in_err-tables.field-0.0 c.in_err-tables.ensures.memory)
+    rw (e.1, e.2) (λ p is same coded profile. left_none g.W.TextSink.took g.W.TextSink.tells (record { none = g.met.W.TextSink.none; joined = g.met.W.TextSink.joined }) p c.args.coming.now.parameters.now c.args.writer.now c.in_err-tables.field-0.0 c.in_err-tables.ensures.memory)
 
 pub put_contents-requires : goal.put_contents-requires
 put_contents-requires g c =

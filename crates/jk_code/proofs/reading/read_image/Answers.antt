@@ -2,8 +2,7 @@ use Rattle.std.proofs.Common.{◌∙◌, sym, subst}
 use Rattle.std.specs.Prelude.{slice_range}
 use Rattle.std.proofs.lemmas.Result.{err_from_is_err_and}
 use Rattle.jk_math.specs.Answer.{Refuses}
-use Rattle.jk_code.proofs.MadeLaws.{no_boxes, no_headers, no_area, no_packets, image_by, file_by}
-use Rattle.jk_code.proofs.ReadLaws.{read_means}
+use Rattle.jk_code.proofs.ReadLaws.{no_boxes, no_headers, no_area, no_packets, image_by, file_by, read_means}
 use Rattle.jk_code.proofs.reading.read_image.Goals as goal
 
 pub returns-in_err-boxed-clause-refused : goal.returns-in_err-boxed-clause-refused

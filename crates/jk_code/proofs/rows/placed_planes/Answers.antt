@@ -12,6 +12,7 @@ use Rattle.jk_tile.specs.decoding.TileSources.{TileSource}
 use Rattle.jk_tile.specs.TileMeaning.{shown_area}
 use Rattle.jk_tile.proofs.Laws.{fine}
 use Rattle.jk_rows.specs.Components.{IsStepEnd}
+use Rattle.jk_rows.specs.declared.tile.TileRows.{TileRows}
 use Rattle.jk_rows.specs.Tiles.{IsTileRows}
 use Rattle.jk_rows.proofs.Laws.{each_set, left_set, count_set}
 use Rattle.jk_code.specs.Sources.{ImageSource, IsImageSource}
@@ -56,6 +57,17 @@ part_of_stripe-part-requires c =
     let begins = c.loop-k.invariant.begins in
     let count = c.loop-k.invariant.count in
     omega (arith, whole, begins, count, c.loop-k-test.true, c.len-k-end.ensures)
+
+pub step_of-requires-clause-at : goal.step_of-requires-clause-at
+step_of-requires-clause-at c =
+    let s = c.args.coded.now in
+    let first = c.args.row.now.first in
+    let y = c.args.stripe.now.y0 in
+    let k : ℕ = c.loop-k.k in
+    let count = c.loop-k.invariant.count in
+    let src = same_of s c.loop-k.row.first first k c.tile_of-next.result c.tile_of-next.ensures c.loop-k.invariant.begins in
+    subst (λ (t : TileSource). IsTileRows t y c.index_mut.result.now) (sym src)
+    (subst (λ (r : TileRows). IsTileRows (tile_source s (first + k)) y r) (sym c.index_mut.ensures.value) (c.loop-k.invariant.left k c.index_mut.result.now (omega arith) (omega (arith, count, c.loop-k-test.true, c.len-k-end.ensures))))
 
 pub step_of-requires-clause-first : goal.step_of-requires-clause-first
 step_of-requires-clause-first c =

@@ -15,7 +15,7 @@ content-requires g c =
 pub returns-in_err-first-clause-part : goal.returns-in_err-first-clause-part
 returns-in_err-first-clause-part g c =
     let same = err_from_is_err_and c.from_residual.result c.from_residual.ensures.1 in
-    rw (same.1, same.2) (λ p told profile. left_none p c.args.source.now.parameters.now (g.W.Write.contents c.args.writer.now) c.in_err-first.field-0.0 c.in_err-first.ensures.memory)
+    rw (same.1, same.2) (λ p told profile. left_none g.W.TextSink.took g.W.TextSink.tells (record { none = g.met.W.TextSink.none; joined = g.met.W.TextSink.joined }) p c.args.source.now.parameters.now c.args.writer.now c.in_err-first.field-0.0 c.in_err-first.ensures.memory)
 
 pub put_file-requires-clause-first : goal.put_file-requires-clause-first
 put_file-requires-clause-first g c p told = c.in_ok-first.ensures.value p c.args.source.now.parameters.now told.told

@@ -1,7 +1,6 @@
 use Rattle.std.proofs.Common.{◌≡◌, [], ap, sym, ◌∙◌, arith}
 use Rattle.std.proofs.lemmas.List.{append-nil}
 use Rattle.std.proofs.lemmas.Result.{err_from_is_err_and}
-use Rattle.jk_math.proofs.Laws.{appends_none}
 use Rattle.jk_marks.specs.Siz.{tile_count}
 use Rattle.jk_params.specs.Profile.{siz_of}
 use Rattle.jk_window.specs.Views.{holds_below}
@@ -16,7 +15,7 @@ pub loop-number-init : goal.loop-number-init
 loop-number-init g c =
     let q = c.args.source.now.parameters.now in
     record {
-      written = λ p told. ([], appends_none (g.W.Write.contents c.args.writer.now), append-nil (parts_upto p q 1));
+      written = λ p told. ([], g.met.W.TextSink.none c.args.writer.now, append-nil (parts_upto p q 1));
       fit = λ p told first. below_more (part_fits p q) 0 (below_none (part_fits p q)) first;
     }
 
@@ -35,7 +34,7 @@ returns-in_err-put_tile g c =
     rw (same.1, same.2)
     (λ p told first.
     (let tiles = c.count_tiles-number-end.ensures.value p told.source in
-    rest_stopped p q (g.W.Write.contents c.args.writer.now) (g.W.Write.contents c.loop-number.writer) (g.W.Write.contents c.put_tile.new.writer) t c.in_err-put_tile.field-0.0
+    rest_stopped g.W.TextSink.took g.W.TextSink.tells (record { none = g.met.W.TextSink.none; joined = g.met.W.TextSink.joined }) p q c.args.writer.now c.loop-number.writer c.put_tile.new.writer t c.in_err-put_tile.field-0.0
     (omega (arith, c.loop-number.auto.number)) (omega (arith, c.loop-number-test.true, tiles)) (c.loop-number.invariant.fit p told first) (c.loop-number.invariant.written p told) (c.in_err-put_tile.ensures p told)))
 
 pub loop-number-preserved : goal.loop-number-preserved
@@ -43,7 +42,7 @@ loop-number-preserved g c =
     let q = c.args.source.now.parameters.now in
     let t = c.loop-number.number in
     record {
-      written = λ p told. rest_more p q (g.W.Write.contents c.args.writer.now) (g.W.Write.contents c.loop-number.writer) (g.W.Write.contents c.put_tile.new.writer) t (c.loop-number.invariant.written p told) (c.in_ok-put_tile.ensures p told);
+      written = λ p told. rest_more g.W.TextSink.took g.W.TextSink.tells (record { none = g.met.W.TextSink.none; joined = g.met.W.TextSink.joined }) p q c.args.writer.now c.loop-number.writer c.put_tile.new.writer t (c.loop-number.invariant.written p told) (c.in_ok-put_tile.ensures p told);
       fit = λ p told first. below_more (part_fits p q) t (c.loop-number.invariant.fit p told first) (c.in_ok-put_tile.ensures p told).2.0;
     }
 

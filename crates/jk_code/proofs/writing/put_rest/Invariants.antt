@@ -1,5 +1,4 @@
 use Rattle.std.proofs.Common.{◌≡◌, ℕ, List, ◌++◌, true}
-use Rattle.std.specs.Io.KnownBytes.{Appends}
 use Rattle.jk_math.specs.Picture.{Picture}
 use Rattle.jk_window.specs.Views.{holds_below}
 use Rattle.jk_code.specs.Written.{part_fits}
@@ -11,7 +10,7 @@ use Rattle.jk_code.proofs.writing.put_rest.Given as goal
 abbrev pub invariant-loop-number : goal.invariant-loop-number
 invariant-loop-number g l = record {
   written : (p : Picture) → HasTiles g.T.TileContents.tells l.source l.tiles p
-      → (text : List ℕ) × Appends (g.W.Write.contents l.initial.writer) (g.W.Write.contents l.writer) text
+      → (text : List ℕ) × g.W.TextSink.took l.initial.writer text l.writer
       × (parts_upto p l.source.parameters.now 1 ++ text ≡ parts_upto p l.source.parameters.now l.number);
   fit : (p : Picture) → HasTiles g.T.TileContents.tells l.source l.tiles p
       → part_fits p l.source.parameters.now 0 ≡ true → holds_below (part_fits p l.source.parameters.now) l.number ≡ true;

@@ -1,6 +1,5 @@
 use Rattle.std.proofs.Common.{◌++◌, inr}
 use Rattle.std.proofs.lemmas.Result.{err_from_is_err_and}
-use Rattle.jk_math.proofs.Laws.{appends_join}
 use Rattle.jk_code.proofs.SendingLaws.{put_behind, sent_first}
 use Rattle.jk_code.proofs.writing.put_start.Goals as goal
 
@@ -12,12 +11,12 @@ returns-in_err-send g c =
 
 pub returns : goal.returns
 returns g c =
-    let a = g.W.Write.contents c.args.writer.now in
-    let b = g.W.Write.contents c.send.new.writer in
-    let d = g.W.Write.contents c.put_data.new.writer in
+    let a = c.args.writer.now in
+    let b = c.send.new.writer in
+    let d = c.put_data.new.writer in
     let first = c.in_ok-send.ensures in
     let last = c.put_data.ensures in (
       first.0 ++ last.0,
-      appends_join a b d first.0 last.0 first.1 last.1,
-      λ text is. put_behind c.args.before.now text first.0 last.0 c.put_data.result first.2 (last.2 text is),
+      g.met.W.TextSink.joined a b d first.0 last.0 first.1 last.1,
+      λ text is. put_behind g.W.TextSink.tells c.args.before.now text first.0 last.0 c.put_data.result first.2 (last.2 text is),
     )

@@ -1,6 +1,5 @@
 use Rattle.std.proofs.Common.{[], inl, inr, refl}
 use Rattle.std.proofs.lemmas.Result.{err_from_is_err_and}
-use Rattle.jk_math.proofs.Laws.{appends_none}
 use Rattle.jk_tile.specs.encoding.PacketsWritten.{tile_text}
 use Rattle.jk_code.proofs.writing.put_tile.Goals as goal
 
@@ -11,7 +10,7 @@ content-requires g c =
 pub returns-in_err-content : goal.returns-in_err-content
 returns-in_err-content g c =
     let same = err_from_is_err_and c.from_residual.result c.from_residual.ensures.1 in
-    rw (same.1, same.2) (λ p told. ([], appends_none (g.W.Write.contents c.args.writer.now), inr (inl (c.in_err-content.ensures.memory, refl))))
+    rw (same.1, same.2) (λ p told. ([], g.met.W.TextSink.none c.args.writer.now, inr (inl (c.in_err-content.ensures.memory, refl))))
 
 pub put_part-requires : goal.put_part-requires
 put_part-requires g c =

@@ -6,3 +6,6 @@ pub returns-clause-put : goal.returns-clause-put
 returns-clause-put c = λ is.
     let put = c.put_image_shorts.ensures.put is in
     put_pixels (λ (x : ℤ). x) (pos 0) c.args.image.now c.put_image_shorts.new.pixels c.put_image_shorts.ensures.profile put.count put.each
+
+pub returns-clause-fits : goal.returns-clause-fits
+returns-clause-fits c = λ has long. c.put_image_shorts.ensures.fits.1 (record { signed = has.sign; few = has.few; room = long })

@@ -3,4 +3,4 @@ use Rattle.jk_tile.specs.decoding.Decoded.{AreSegments}
 use Rattle.jk_tile.proofs.decoding.jobs.add_tile_blocks.Given as goal
 
 abbrev pub invariant-loop-c : goal.invariant-loop-c
-invariant-loop-c l = AreSegments (length l.bytes) l.fn.segments.items → AreSegments (length l.bytes) l.segments.items
+invariant-loop-c l = AreSegments (length l.coded.bytes) l.fn.segments.items → AreSegments (length l.coded.bytes) l.segments.items

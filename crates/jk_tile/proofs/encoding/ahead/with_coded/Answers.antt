@@ -1,4 +1,4 @@
-use Rattle.std.proofs.Common.{◌≡◌, List, Result, IfOk, map, reverse, sym, ap, subst, ◌∙◌}
+use Rattle.std.proofs.Common.{◌≡◌, Result, IfOk, map, reverse, sym, ap, subst, ◌∙◌}
 use Rattle.jk_tile.specs.encoding.Ahead.{layered_block}
 use Rattle.jk_tile.proofs.encoding.AheadLaws.{map_reverse}
 use Rattle.jk_tile.proofs.encoding.ahead.with_coded.Goals as goal

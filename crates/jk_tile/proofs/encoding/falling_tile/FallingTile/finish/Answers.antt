@@ -10,7 +10,7 @@ use Rattle.jk_tile.proofs.encoding.falling_tile.FallingTile.finish.Goals as goal
 pub loop-component-init : goal.loop-component-init
 loop-component-init c =
     let all = c.args.self.components.items in
-    let none = ap (λ (l : List FallenComponent). length l) c.new-components.ensures.items in
+    let none = ap (λ (l : List FallenComponent). length l) c.in_ok-components.ensures.items in
     record {
       left = c.into_iter-component-iterator.ensures.into_iter_gives.0 ∙ sym (ap (λ n. drop n all) none);
       few = omega (arith, none);

@@ -1,10 +1,9 @@
-use Rattle.std.proofs.Common.{◌≡◌, ◌≢◌, ◌<◌, ℕ, get_or, length, sym, ap, subst, ◌∙◌, arith}
+use Rattle.std.proofs.Common.{◌≡◌, ◌≢◌, ◌<◌, ℕ, get_or, length, sym, subst, ◌∙◌, arith}
 use Rattle.std.proofs.lemmas.List.{get_or-set_other, length-set}
-use Rattle.jk_math.specs.declared.rect.Rect.{Rect}
 use Rattle.jk_tile.specs.encoding.FallingComponents.{HasSamples}
 use Rattle.jk_tile.specs.encoding.FallingTiles.{IsStandingAt}
 use Rattle.jk_tile.proofs.encoding.ListsKept.{replaced}
-use Rattle.jk_tile.proofs.encoding.TileFalls.{stripe_part, stripe_values}
+use Rattle.jk_tile.proofs.encoding.TileFalls.{rows_part, rows_values}
 use Rattle.jk_tile.proofs.encoding.falling_tile.FallingTile.give.Goals as goal
 
 pub put_values-requires-clause-component : goal.put_values-requires-clause-component
@@ -12,7 +11,7 @@ put_values-requires-clause-component c = let count = c.requires.count in omega (
 
 pub put_values-requires-clause-rect : goal.put_values-requires-clause-rect
 put_values-requires-clause-rect c =
-    stripe_part c.args.source.now c.args.self.now.y c.args.stripe.now c.part_of-part.result c.part_of-part.ensures.frame c.requires.stripe c.part_of-part.ensures.value
+    rows_part c.args.source.now c.args.self.now.y c.args.rows.now.end c.args.rows.now.image.now c.rows-part.result c.rows-part.ensures.frame c.requires.rows c.rows-part.ensures.value
 
 pub give-requires-clause-standing : goal.give-requires-clause-standing
 give-requires-clause-standing c =
@@ -31,20 +30,17 @@ give-requires-clause-order c =
     let lt : k < length all = omega (arith, c.loop-c-test.true, c.len-c-end.ensures) in
     let first : was ≡ get_or all k was = c.index_mut.ensures.value ∙ c.loop-c.invariant.left k was (omega arith) in
     let place = (subst (IsStandingAt c.args.source.now c.args.self.now.y) (sym first) (c.requires.standing.each k was lt)).next in
-    let end = ap (λ (a : Rect). a.y1) c.part_of-part.ensures.value in
-    let next = c.requires.stripe.next in
-    omega (arith, place, end, next)
+    let order = c.requires.rows.order in
+    omega (arith, place, order)
 
 pub give-requires-clause-inside : goal.give-requires-clause-inside
 give-requires-clause-inside c =
-    let end = ap (λ (a : Rect). a.y1) c.part_of-part.ensures.value in
-    let lower = c.requires.stripe.lower in
-    omega (arith, end, lower)
+    c.requires.rows.inside
 
 pub give-requires-clause-given : goal.give-requires-clause-given
 give-requires-clause-given c =
     let s = c.args.source.now in
-    let v = c.args.stripe.now in
+    let v = c.args.rows.now.image.now in
     let k : ℕ = c.loop-c.c in
     let all = c.args.self.now.components.items in
     let was = c.index_mut.result.now in
@@ -53,18 +49,17 @@ give-requires-clause-given c =
     let few : k < length v.planes = omega (arith, lt, count) in
     let first : was ≡ get_or all k was = c.index_mut.ensures.value ∙ c.loop-c.invariant.left k was (omega arith) in
     let place = (subst (IsStandingAt s c.args.self.now.y) (sym first) (c.requires.standing.each k was lt)).next in
-    let end = ap (λ (a : Rect). a.y1) c.part_of-part.ensures.value in
     let f = c.requires.given in (
       f.0 k,
       f.1 k few,
       subst (HasSamples s (f.0 k)) (sym first) (f.2.each k was lt),
-      stripe_values s c.args.colours v c.part_of-part.result f.0 k was.y c.part_of-part.result.y1 c.put_values.new.values.items few c.part_of-part.ensures.value (c.requires.stripe.next ∙ sym place) (sym end) f.3 c.in_ok-put_values.ensures.values,
+      rows_values s c.args.rows.now.colours v c.rows-part.result f.0 k c.args.self.now.y c.args.rows.now.end was.y c.put_values.new.values.items few c.rows-part.ensures.value (sym place) f.3 c.in_ok-put_values.ensures.values,
     )
 
 pub loop-c-preserved : goal.loop-c-preserved
 loop-c-preserved c =
     let s = c.args.source.now in
-    let v = c.args.stripe.now in
+    let v = c.args.rows.now.image.now in
     let k : ℕ = c.loop-c.c in
     let now = c.loop-c.invariant in
     let all = c.args.self.now.components.items in
@@ -79,14 +74,13 @@ loop-c-preserved c =
     let here : k < length held = omega (arith, lt, count) in
     let first : was ≡ get_or all k was = c.index_mut.ensures.value ∙ now.left k was (omega arith) in
     let place = (subst (IsStandingAt s c.args.self.now.y) (sym first) (c.requires.standing.each k was lt)).next in
-    let end = ap (λ (a : Rect). a.y1) c.part_of-part.ensures.value in
     record {
       count = length-set held k new ∙ count;
-      done = replaced (λ j y. IsStandingAt s c.part_of-part.result.y1 y) held k new here now.done (record { standing = done.standing; next = done.next });
+      done = replaced (λ j y. IsStandingAt s c.args.rows.now.end y) held k new here now.done (record { standing = done.standing; next = done.next });
       left = λ j other from. get_or-set_other held k j new other (let ne : j ≢ k = omega (arith, from) in ne) ∙ now.left j other (omega (arith, from));
       rows = λ f has gives. replaced (λ j y. HasSamples s (f j) y) held k new here (now.rows f has gives)
           (done.rows (f k) (subst (HasSamples s (f k)) (sym first) (has.each k was lt))
-          (stripe_values s c.args.colours v c.part_of-part.result f k was.y c.part_of-part.result.y1 c.put_values.new.values.items few c.part_of-part.ensures.value (c.requires.stripe.next ∙ sym place) (sym end) gives c.in_ok-put_values.ensures.values));
+          (rows_values s c.args.rows.now.colours v c.rows-part.result f k c.args.self.now.y c.args.rows.now.end was.y c.put_values.new.values.items few c.rows-part.ensures.value (sym place) gives c.in_ok-put_values.ensures.values));
     }
 
 pub returns-clause-standing : goal.returns-clause-standing

@@ -16,8 +16,8 @@ returns-clause-holds c =
       top = c.band-area.result.y0;
       waiting = c.new.result;
       area = record { x0 = c.band-area.result.x0; y0 = c.band-area.result.y0; x1 = c.band-area.result.x1; y1 = c.band-area.result.y0 };
-      strip = c.new-2.result;
-      room = c.new-3.result;
+      strip = c.in_ok-strip.strip;
+      room = c.new-2.result;
       blocks = c.add_lists.new.lists;
       bits = 0;
     } in
@@ -29,7 +29,7 @@ returns-clause-holds c =
       rows = refl;
       top = refl;
       waiting = c.new.ensures.items;
-      strip = c.new-2.ensures.items;
+      strip = c.in_ok-strip.ensures.items;
       blocks = c.in_ok-add_lists.ensures.lists ∙ ap (λ (l : List (Vec Layered)). lists_of l ++ replicate (c.precinct_count-across.result.0 * c.precinct_count-across.result.1) []) c.new-blocks.ensures.items;
       number = count_of c.rect-rect.result s.rect c.coding-coding.result.now s.coding c.args.r c.precinct_count-across.result.0 c.precinct_count-across.result.1 c.rect-rect.ensures.value c.coding-coding.ensures.value c.precinct_count-across.ensures.across c.precinct_count-across.ensures.down;
       bits = refl;
@@ -44,8 +44,8 @@ returns-clause-rows c f =
       top = c.band-area.result.y0;
       waiting = c.new.result;
       area = record { x0 = c.band-area.result.x0; y0 = c.band-area.result.y0; x1 = c.band-area.result.x1; y1 = c.band-area.result.y0 };
-      strip = c.new-2.result;
-      room = c.new-3.result;
+      strip = c.in_ok-strip.strip;
+      room = c.new-2.result;
       blocks = c.add_lists.new.lists;
       bits = 0;
     } in
@@ -57,7 +57,7 @@ returns-clause-rows c f =
       rows = refl;
       top = refl;
       waiting = c.new.ensures.items;
-      strip = c.new-2.ensures.items;
+      strip = c.in_ok-strip.ensures.items;
       blocks = c.in_ok-add_lists.ensures.lists ∙ ap (λ (l : List (Vec Layered)). lists_of l ++ replicate (c.precinct_count-across.result.0 * c.precinct_count-across.result.1) []) c.new-blocks.ensures.items;
       number = count_of c.rect-rect.result s.rect c.coding-coding.result.now s.coding c.args.r c.precinct_count-across.result.0 c.precinct_count-across.result.1 c.rect-rect.ensures.value c.coding-coding.ensures.value c.precinct_count-across.ensures.across c.precinct_count-across.ensures.down;
       bits = refl;

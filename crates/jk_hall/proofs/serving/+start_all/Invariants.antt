@@ -1,5 +1,0 @@
-use Rattle.std.proofs.Common.{vec_len}
-use Rattle.jk_hall.proofs.serving.+start_all.Given as goal
-
-abbrev pub decreases-start_all : goal.decreases-start_all
-decreases-start_all g l = vec_len l.workers
